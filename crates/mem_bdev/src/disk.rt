@@ -1,0 +1,156 @@
+ghost use Rattle.std.specs.Prelude.{◌≡◌, ◌≤◌, ◌<◌, ◌+◌, ◌*◌, ◌/◌, ◌^◌, ◌↔◌, IfOk, IsTrue, ◌++◌, length, take, drop, replicate, ◌⊎◌};
+ghost use Rattle.mem_bdev.specs.Blocks.{Blocks, blank, bytes_read, written, zeroed, IsShape, IsWhole, IsInside};
+
+use crate::name::Name;
+use std::alloc::{AllocError, Global};
+use std::marker::Model;
+
+// Copies from a place in `bytes`.
+fn copy_out(bytes: &[u8], start: usize, to: &mut [u8])
+    requires { start + length to.old ≤ length bytes.now }
+    ensures { to.new ≡ take (length to.old) (drop start bytes.now) }
+{
+    let end = start + to.len();
+    to.copy_from_slice(&bytes[start..end]);
+}
+
+// Copies to a place in `bytes`.
+fn copy_in(bytes: &mut [u8], start: usize, from: &[u8])
+    requires { start + length from.now ≤ length bytes.old }
+    ensures { bytes.new ≡ take start bytes.old ++ (from.now ++ drop (length from.now) (drop start bytes.old)) }
+{
+    let end = start + from.len();
+    bytes[start..end].copy_from_slice(from);
+}
+
+// Zeroes bytes from a place on.
+fn zero_at(bytes: &mut [u8], start: usize, count: usize)
+    requires { start + count ≤ length bytes.old }
+    ensures { bytes.new ≡ take start bytes.old ++ (replicate count 0 ++ drop count (drop start bytes.old)) }
+{
+    bytes[start..start + count].fill(0);
+}
+
+// The size of a block.
+fn size_of(shift: u8) -> usize
+    requires { (shift ≡ 9) ⊎ (shift ≡ 12) }
+    ensures { result ≡ 2 ^ shift }
+{
+    if shift == 9 { 512 } else { 4096 }
+}
+
+fn zeros(alloc: Global, count: usize) -> Result<Vec<u8>, AllocError>
+    ensures { IfOk result (λ v. v.items ≡ replicate count 0) }
+{
+    vec![in alloc; 0; count]
+}
+
+/// What a plan says of a disk: the path by which namespaces name it, the base 2 logarithm of its block size in bytes (9
+/// or 12), and its number of blocks.
+#[derive(Debug, Drop)]
+pub struct DiskLine {
+    pub path: Name,
+    pub shift: u8,
+    pub blocks: u64,
+}
+
+impl DiskLine {
+    /// Whether a disk may have this shape: blocks of 512 or 4,096 bytes, at least one, at most 16 MiB together.
+    pub fn is_shape(&self) -> bool
+        ensures { IsTrue result ↔ IsShape self.now.shift self.now.blocks }
+    {
+        if self.shift == 9 {
+            1 <= self.blocks && self.blocks <= 32_768
+        } else {
+            self.shift == 12 && 1 <= self.blocks && self.blocks <= 4_096
+        }
+    }
+}
+
+/// A disk in memory. Contracts see its block size and the list of its blocks.
+#[derive(Drop)]
+pub struct Disk {
+    shift: u8,
+    size: usize,
+    blocks: u64,
+    bytes: Vec<u8>,
+}
+
+impl Model for Disk {
+    ghost use Rattle.mem_bdev.specs.Blocks.{Blocks};
+
+    ghost Value = { Blocks };
+
+    ghost use Rattle.std.specs.Prelude.{length, ◌≡◌, ◌≤◌, ◌<◌, ◌*◌, ◌^◌};
+    ghost use Rattle.mem_bdev.specs.Blocks.{cut};
+
+    ghost view = { λ d. record { shift = d.shift; blocks = cut d.blocks (2 ^ d.shift) d.bytes.items } };
+
+    ghost invariant = { λ d. (d.size ≡ 2 ^ d.shift) × (length d.bytes.items ≡ d.blocks * 2 ^ d.shift) × (d.size ≤ 4096) };
+}
+
+impl Disk {
+    /// A disk of zeros, with blocks of 2 ^ `shift` bytes.
+    pub fn new(alloc: Global, shift: u8, blocks: u64) -> Result<Self, AllocError>
+        requires { IsShape shift blocks }
+        ensures { IfOk result (λ d. d ≡ blank shift blocks) }
+    {
+        let size = size_of(shift);
+        let bytes = zeros(alloc, blocks as usize * size)?;
+        Ok(Disk {
+            shift,
+            size,
+            blocks,
+            bytes,
+        })
+    }
+
+    /// The base 2 logarithm of the block size: 9 or 12.
+    pub fn shift(&self) -> u8
+        ensures { result ≡ self.now.shift }
+    {
+        self.shift
+    }
+
+    /// The block size in bytes: 512 or 4,096.
+    pub fn block_size(&self) -> usize
+        ensures size { result ≡ 2 ^ self.now.shift }
+        ensures small { result ≤ 4096 }
+    {
+        self.size
+    }
+
+    /// The number of blocks.
+    pub fn blocks(&self) -> u64
+        ensures { result ≡ length self.now.blocks }
+    {
+        self.blocks
+    }
+
+    /// Reads whole blocks from the block `lba` on, as many as `to` has room for. Takes no memory.
+    pub fn read(&self, lba: u64, to: &mut [u8])
+        requires { IsWhole self.now lba (length to.old) }
+        ensures { to.new ≡ bytes_read self.now lba (length to.old / 2 ^ self.now.shift) }
+    {
+        let start = lba as usize * self.size;
+        copy_out(&self.bytes, start, to);
+    }
+
+    /// Writes whole blocks from the block `lba` on, and leaves the others. Takes no memory.
+    pub fn write(&mut self, lba: u64, from: &[u8])
+        requires { IsWhole self.old lba (length from.now) }
+        ensures { self.new ≡ written self.old lba from.now }
+    {
+        let start = lba as usize * self.size;
+        copy_in(&mut self.bytes, start, from);
+    }
+    /// Zeroes `count` blocks from the block `lba` on, and leaves the others. Takes no memory.
+    pub fn zero(&mut self, lba: u64, count: u64)
+        requires { IsInside self.old lba count }
+        ensures { self.new ≡ zeroed self.old lba count }
+    {
+        let start = lba as usize * self.size;
+        let len = count as usize * self.size;
+        zero_at(&mut self.bytes, start, len);
+    }
+}
