@@ -5,7 +5,7 @@ use Rattle.std.proofs.lemmas.List.{length-append}
 use Rattle.std.specs.List.{flat_map}
 use Rattle.std.specs.Vec.{with_items}
 use Rattle.std.proofs.lemmas.List.{with_items_is, length-take, length-drop, length-replicate}
-use Rattle.mem_bdev.specs.Blocks.{Blocks, cut, IsWhole, IsInside, bytes_read, with_blocks, written, zeroed, blank}
+use Rattle.mem_bdev.specs.Blocks.{Blocks, cut, IsWhole, IsInside, range_bytes, with_blocks, written, zeroed, blank}
 use Rattle.mem_bdev.specs.declared.disk.Disk.TheInside.{Inside}
 use Rattle.mem_bdev.specs.contracts.disk.Disk.{the_view, the_invariant}
 use Rattle.mem_bdev.proofs.Cuts.{length-cut, fits, read-cut, write-cut, cut-replicate}
@@ -22,7 +22,7 @@ in_bytes i v lba len view inv w =
     let f = fits (2 ^ i.shift) lba len i.blocks o.whole inside in
     rw (inv.0, inv.1) f
 
-pub read_gives : (i : Inside) (v : Blocks) (lba len : ℕ) → the_view i ≡ v → the_invariant i → IsWhole v lba len → take len (drop (lba * i.size) i.bytes.items) ≡ bytes_read v lba (len / 2 ^ v.shift)
+pub read_gives : (i : Inside) (v : Blocks) (lba len : ℕ) → the_view i ≡ v → the_invariant i → IsWhole v lba len → take len (drop (lba * i.size) i.bytes.items) ≡ range_bytes v lba (len / 2 ^ v.shift)
 read_gives i v lba len view inv w =
     let o = own i v lba len view w in
     let n = length-cut i.blocks (2 ^ i.shift) i.bytes.items in

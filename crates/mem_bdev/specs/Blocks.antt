@@ -43,8 +43,8 @@ pub record IsWhole (d : Blocks) (lba len : ℕ) : Type 0 where
   pub inside : lba + len / 2 ^ d.shift ≤ length d.blocks
 
 -- the bytes of `count` blocks from the block `lba` on
-abbrev pub bytes_read : Blocks → ℕ → ℕ → List ℕ
-bytes_read d lba count = flat_map (λ b. b) (take count (drop lba d.blocks))
+abbrev pub range_bytes : Blocks → ℕ → ℕ → List ℕ
+range_bytes d lba count = flat_map (λ b. b) (take count (drop lba d.blocks))
 
 -- the disk with these blocks in the place of those from `lba` on
 abbrev pub with_blocks : Blocks → ℕ → List (List ℕ) → Blocks

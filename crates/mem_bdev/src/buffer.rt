@@ -1,5 +1,5 @@
 ghost use Rattle.std.specs.Prelude.{◌≡◌, ◌≤◌, ◌+◌, ◌*◌, ◌^◌, IfOk, [], length, take};
-ghost use Rattle.mem_bdev.specs.Blocks.{IsInside, bytes_read};
+ghost use Rattle.mem_bdev.specs.Blocks.{IsInside, range_bytes};
 
 use crate::disk::Disk;
 use std::alloc::{AllocError, Global};
@@ -13,7 +13,7 @@ fn read_front(disk: &Disk, lba: u64, count: u32, len: usize, room: &mut [u8])
     requires inside { IsInside disk.now lba count }
     requires len { len ≡ count * 2 ^ disk.now.shift }
     requires room { len ≤ length room.old }
-    ensures { take len room.new ≡ bytes_read disk.now lba count }
+    ensures { take len room.new ≡ range_bytes disk.now lba count }
 {
     disk.read(lba, &mut room[..len]);
 }
@@ -56,7 +56,7 @@ impl Buffer {
     pub fn read_from(&mut self, disk: &Disk, lba: u64, count: u32)
         requires inside { IsInside disk.now lba count }
         requires room { count * 2 ^ disk.now.shift ≤ 131072 }
-        ensures { self.new ≡ bytes_read disk.now lba count }
+        ensures { self.new ≡ range_bytes disk.now lba count }
     {
         let len = count as usize * disk.block_size();
         read_front(disk, lba, count, len, &mut self.room);

@@ -1,5 +1,5 @@
 ghost use Rattle.std.specs.Prelude.{◌≡◌, ◌≤◌, ◌<◌, ◌+◌, ◌*◌, ◌/◌, ◌^◌, ◌↔◌, IfOk, IsTrue, ◌++◌, length, take, drop, replicate, ◌⊎◌};
-ghost use Rattle.mem_bdev.specs.Blocks.{Blocks, blank, bytes_read, written, zeroed, IsShape, IsWhole, IsInside};
+ghost use Rattle.mem_bdev.specs.Blocks.{Blocks, blank, range_bytes, written, zeroed, IsShape, IsWhole, IsInside};
 
 use crate::name::Name;
 use std::alloc::{AllocError, Global};
@@ -130,7 +130,7 @@ impl Disk {
     /// Reads whole blocks from the block `lba` on, as many as `to` has room for. Takes no memory.
     pub fn read(&self, lba: u64, to: &mut [u8])
         requires { IsWhole self.now lba (length to.old) }
-        ensures { to.new ≡ bytes_read self.now lba (length to.old / 2 ^ self.now.shift) }
+        ensures { to.new ≡ range_bytes self.now lba (length to.old / 2 ^ self.now.shift) }
     {
         let start = lba as usize * self.size;
         copy_out(&self.bytes, start, to);

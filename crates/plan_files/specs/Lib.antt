@@ -1,0 +1,9 @@
+pub mod Outside
+pub mod Kept
+pub mod Words
+pub mod Lines
+pub mod Plans
+pub mod Capsules
+pub mod Rooms
+pub mod Records
+pub mod Stored

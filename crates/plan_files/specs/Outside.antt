@@ -1,0 +1,86 @@
+-- What calls of the outside do, and when they fail.
+use Rattle.std.specs.Prelude.{◌≡◌, ◌≢◌, ◌≤◌, ◌<◌, ℕ, ◌+◌, ◌-◌, ◌^◌, min, Bool, true, false, IsTrue, nat_le, List, ◌++◌, length, take, Option, Some, None, Result, Ok, Err, IfSome, IsSome, IsSomeAnd}
+use Rattle.plan_files.specs.declared.outside.FileError.{FileError}
+use Rattle.plan_files.specs.declared.outside.FileError.TheVariants as files
+use Rattle.plan_files.specs.declared.outside.WriteError.{WriteError}
+use Rattle.plan_files.specs.declared.outside.WriteError.TheVariants as writes
+use Rattle.plan_files.specs.declared.outside.SinkFault.{SinkFault}
+
+-- a count of faults rose, or stands at its end
+abbrev pub Rose : ℕ → ℕ → Type 0
+Rose before now = min (before + 1) (2 ^ 64 - 1) ≤ now
+
+-- the last call on files: whether it wrote, the first 255 bytes of the name, and whether the count rose in it
+pub record LastCall : Type 0 where
+  pub wrote : Bool
+  pub name : List ℕ
+  pub rose : Bool
+
+abbrev pub rose : ℕ → ℕ → Bool
+rose before now = nat_le (min (before + 1) (2 ^ 64 - 1)) now
+
+abbrev pub read_call : List ℕ → ℕ → ℕ → LastCall
+read_call name before now = record { wrote = false; name = take 255 name; rose = rose before now }
+
+abbrev pub write_call : List ℕ → ℕ → ℕ → LastCall
+write_call name before now = record { wrote = true; name = take 255 name; rose = rose before now }
+
+-- what a read appends: the whole content, of at most `limit` bytes; or `limit + 1` bytes of a longer one; or nothing
+abbrev pub ReadGives : Option (List ℕ) → ℕ → List ℕ → List ℕ → Result (Unit {0}) FileError → Type 0
+ReadGives told limit old new (Ok u) = (content : List ℕ) × (new ≡ old ++ content) × (length content ≤ limit) × IfSome told (λ c. c ≡ content)
+ReadGives told limit old new (Err files.TooLong) = (front : List ℕ) × (new ≡ old ++ front) × (length front ≡ limit + 1) × IfSome told (λ c. take (limit + 1) c ≡ front)
+ReadGives told limit old new (Err files.Failed) = new ≡ old
+ReadGives told limit old new (Err files.Memory) = new ≡ old
+
+-- What a write leaves at its name. A name that was told stays told, whatever the write answers. After `Ok` it holds the
+-- bytes, and is told where it was told before or the files tell at all.
+abbrev pub WriteResult : Bool → Option (List ℕ) → Option (List ℕ) → List ℕ → Result (Unit {0}) WriteError → Type 0
+WriteResult tells old new bytes (Ok u) = IfSome new (λ c. c ≡ bytes) × (IsSome old → new ≡ Some bytes) × (IsTrue tells → new ≡ Some bytes)
+WriteResult tells old new bytes (Err writes.Failed) = IsSome old → IsSome new
+WriteResult tells old new bytes (Err writes.Memory) = new ≡ old
+
+-- what a write leaves: the bytes at the name, and other names as before
+pub record WriteGives (tells : Bool) (old new : List ℕ → Option (List ℕ)) (name bytes : List ℕ) (result : Result (Unit {0}) WriteError) : Type 0 where
+  pub others : (other : List ℕ) → other ≢ name → new other ≡ old other
+  pub this : WriteResult tells (old name) (new name) bytes result
+
+-- `Failed` comes only where the count rose
+abbrev pub ReadFailed : ℕ → ℕ → Result (Unit {0}) FileError → Type 0
+ReadFailed before now (Err files.Failed) = Rose before now
+ReadFailed before now (Err files.TooLong) = Unit {0}
+ReadFailed before now (Err files.Memory) = Unit {0}
+ReadFailed before now (Ok u) = Unit {0}
+
+-- why a read failed; the count never falls, whatever it answers
+pub record ReadCause (before now : ℕ) (result : Result (Unit {0}) FileError) : Type 0 where
+  pub later : before ≤ now
+  pub failed : ReadFailed before now result
+
+abbrev pub WriteFailed : ℕ → ℕ → Result (Unit {0}) WriteError → Type 0
+WriteFailed before now (Err writes.Failed) = Rose before now
+WriteFailed before now (Err writes.Memory) = Unit {0}
+WriteFailed before now (Ok u) = Unit {0}
+
+-- why a write failed; the count never falls, whatever it answers
+pub record WriteCause (before now : ℕ) (result : Result (Unit {0}) WriteError) : Type 0 where
+  pub later : before ≤ now
+  pub failed : WriteFailed before now result
+
+-- what a sink took: all of the bytes, or a front of them
+abbrev pub Takes : List ℕ → List ℕ → List ℕ → Result (Unit {0}) SinkFault → Type 0
+Takes old new bytes (Ok u) = new ≡ old ++ bytes
+Takes old new bytes (Err e) = (n : ℕ) × (new ≡ old ++ take n bytes)
+
+-- where nothing is told, nothing is claimed; what was told stays told
+abbrev pub SinkTakes : Option (List ℕ) → Option (List ℕ) → List ℕ → Result (Unit {0}) SinkFault → Type 0
+SinkTakes None new bytes result = Unit {0}
+SinkTakes (Some old) new bytes result = IsSomeAnd new (λ now. Takes old now bytes result)
+
+abbrev pub SinkFailed : ℕ → ℕ → Result (Unit {0}) SinkFault → Type 0
+SinkFailed before now (Err e) = Rose before now
+SinkFailed before now (Ok u) = Unit {0}
+
+-- why a sink failed; the count never falls, whatever it answers
+pub record SinkCause (before now : ℕ) (result : Result (Unit {0}) SinkFault) : Type 0 where
+  pub later : before ≤ now
+  pub failed : SinkFailed before now result

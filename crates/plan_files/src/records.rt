@@ -1,0 +1,86 @@
+ghost use Rattle.std.specs.Prelude.{◌≡◌, ◌<◌, ◌≤◌, ◌^◌, ◌+◌, ◌++◌, length, OnOk, OnErr, IsOk};
+ghost use Rattle.std.specs.Vec.{vec_capacity};
+ghost use Rattle.plan_files.specs.Records.{record_head, record_bytes, bytes_of};
+
+use mem_bdev::Name;
+use sqe_cqe::{Cqe, write_cqe};
+use std::alloc::AllocError;
+
+/// One record of a response file: a call of a queue, and what it answered.
+#[derive(Debug, Drop)]
+pub struct Record {
+    /// The place of the call in the order of all calls of the run, from 0.
+    pub place: u32,
+    /// 1 submit, 2 execute, 3 poll, 4 control.
+    pub kind: u8,
+    /// 0 held, 1 answered (of a poll: an event), 2 waiting, 3 no event.
+    pub answer: u8,
+    /// The capsule's number in its file, from 0; of a poll, how many capsules the queue has taken.
+    pub number: u32,
+    /// The completion; 16 zero bytes where the answer isn't 1.
+    pub cqe: Cqe,
+    /// The data for the host, below 2^32 bytes.
+    pub payload: Name,
+}
+
+// The 16 bytes before the completion.
+#[tactic(auto, unfolding(crate::specs::Records::record_head))]
+fn head(place: u32, kind: u8, answer: u8, number: u32, len: u32) -> [u8; 16]
+    ensures { result ≡ record_head place kind answer number len }
+{
+    let [p0, p1, p2, p3] = place.to_le_bytes();
+    let [n0, n1, n2, n3] = number.to_le_bytes();
+    let [l0, l1, l2, l3] = len.to_le_bytes();
+    [
+        p0, p1, p2, p3, kind, answer, 0, 0, n0, n1, n2, n3, l0, l1, l2, l3,
+    ]
+}
+
+/// Appends the record with these fields, as `write_record` does, from a payload that is only
+/// borrowed: its bytes are copied once.
+///
+/// A record has 32 bytes and its payload, of fewer than 2^32 bytes. Without memory `to` is as
+/// before. There is memory where `to` has spare room for the record.
+pub fn put_record(
+    place: u32,
+    kind: u8,
+    answer: u8,
+    number: u32,
+    cqe: &Cqe,
+    payload: &[u8],
+    to: &mut Vec<u8>,
+) -> Result<(), AllocError>
+    requires { length payload.now < 2 ^ 32 }
+    ensures bytes { OnOk result (to.new.items ≡ to.old.items ++ record_bytes place kind answer number cqe.now payload.now) }
+    ensures same { OnErr result (to.new.items ≡ to.old.items) }
+    ensures roomy { length to.old.items + (32 + length payload.now) ≤ vec_capacity to.old → IsOk result }
+    ensures capacity { vec_capacity to.old ≤ vec_capacity to.new }
+{
+    to.reserve(32 + payload.len())?;
+    to.extend_from_slice(&head(place, kind, answer, number, payload.len() as u32))?;
+    to.extend_from_slice(&write_cqe(cqe))?;
+    to.extend_from_slice(payload)?;
+    Ok(())
+}
+
+/// Appends a record: its 16 bytes of head, the completion, the data; little-endian.
+///
+/// Without memory `to` is as before. There is memory where `to` has spare room for the record.
+pub fn write_record(r: &Record, to: &mut Vec<u8>) -> Result<(), AllocError>
+    requires { length r.now.payload < 2 ^ 32 }
+    ensures bytes { OnOk result (to.new.items ≡ to.old.items ++ bytes_of r.now) }
+    ensures same { OnErr result (to.new.items ≡ to.old.items) }
+    ensures roomy { length to.old.items + (32 + length r.now.payload) ≤ vec_capacity to.old → IsOk result }
+    ensures capacity { vec_capacity to.old ≤ vec_capacity to.new }
+{
+    put_record(
+        r.place,
+        r.kind,
+        r.answer,
+        r.number,
+        &r.cqe,
+        r.payload.as_bytes(),
+        to,
+    )?;
+    Ok(())
+}
