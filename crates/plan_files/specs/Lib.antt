@@ -2,8 +2,13 @@ pub mod Outside
 pub mod Kept
 pub mod Words
 pub mod Lines
+pub mod Spelling
+pub mod Shown
 pub mod Plans
-pub mod Capsules
+pub mod PlanReading
 pub mod Rooms
+pub mod Capsules
+pub mod Fronts
 pub mod Records
 pub mod Stored
+pub mod Adapters

@@ -1,5 +1,5 @@
 -- What calls of the outside do, and when they fail.
-use Rattle.std.specs.Prelude.{◌≡◌, ◌≢◌, ◌≤◌, ◌<◌, ℕ, ◌+◌, ◌-◌, ◌^◌, min, Bool, true, false, IsTrue, nat_le, List, ◌++◌, length, take, Option, Some, None, Result, Ok, Err, IfSome, IsSome, IsSomeAnd}
+use Rattle.std.specs.Prelude.{◌≡◌, ◌≢◌, ◌≤◌, ℕ, ◌+◌, ◌-◌, ◌^◌, min, Bool, true, false, IsTrue, nat_le, List, ◌++◌, length, take, Option, Some, None, Result, Ok, Err, IfSome, IsSome, IsSomeAnd}
 use Rattle.plan_files.specs.declared.outside.FileError.{FileError}
 use Rattle.plan_files.specs.declared.outside.FileError.TheVariants as files
 use Rattle.plan_files.specs.declared.outside.WriteError.{WriteError}

@@ -1,62 +1,17 @@
--- Plans: what their lines spell, and the plan of the lines.
-use Rattle.std.specs.Prelude.{◌≡◌, ◌⊎◌, ◌<◌, ◌≤◌, ◌^◌, ℕ, Bool, true, false, List, [], ◌∷◌, ◌++◌, length, All, codes, Option, Some, None}
-use Rattle.std.specs.List.{fold}
-use Rattle.std.specs.Fmt.{decimal}
-use Rattle.mem_bdev.specs.Blocks.{IsShape}
+-- Plans: what their lines say one after another, and which line is the first bad one.
+use Rattle.std.specs.Prelude.{◌≡◌, ◌⊎◌, ◌≤◌, ◌^◌, ℕ, ◌*◌, ◌==◌, nat_lt, nat_le, Bool, true, false, not, ◌&&◌, ◌||◌, if◌then◌else◌, List, [], ◌∷◌, ◌++◌, length, codes, Option, Some, None, Result, Ok, Err}
+use Rattle.std.specs.Option.{is_some}
+use Rattle.std.specs.List.{list_any, list_all, sum_by}
+use Rattle.std.specs.Str.{bytes_eq}
 use Rattle.mem_bdev.specs.declared.disk.DiskLine.{DiskLine}
-use Rattle.plan_files.specs.declared.items.QueueLine.{QueueLine}
 use Rattle.plan_files.specs.declared.items.Item.{Item}
 use Rattle.plan_files.specs.declared.items.Item.TheVariants.{Simple, Disk, Config, Script, Journal, Queue}
 use Rattle.plan_files.specs.declared.items.Plan.{Plan}
+use Rattle.plan_files.specs.declared.plan.PlanError.{PlanError}
+use Rattle.plan_files.specs.declared.plan.PlanError.TheVariants as errors
+use Rattle.plan_files.specs.declared.limits.What.TheVariants.{Disks, DiskBytes, AllDiskBytes, Queues}
 use Rattle.plan_files.specs.Lines.{lines_of}
-
--- a name: 1 to 255 bytes from 21h to 7Eh
-pub record IsName (name : List ℕ) : Type 0 where
-  pub some : 1 ≤ length name
-  pub short : length name ≤ 255
-  pub visible : All (λ b. (33 ≤ b) × (b ≤ 126)) name
-
-abbrev pub disk_spelling : DiskLine → List ℕ
-disk_spelling d = codes "disk " ++ d.path ++ codes " " ++ decimal d.shift ++ codes " " ++ decimal d.blocks
-
-abbrev pub queue_spelling : QueueLine → List ℕ
-queue_spelling q = codes "queue " ++ decimal q.port ++ codes " " ++ q.capsules ++ codes " " ++ q.responses
-
--- the line that says an item
-abbrev pub spelling : Item → List ℕ
-spelling Simple = codes "simple"
-spelling (Disk d) = disk_spelling d
-spelling (Config name) = codes "config " ++ name
-spelling (Script name) = codes "script " ++ name
-spelling (Journal name) = codes "journal " ++ name
-spelling (Queue q) = queue_spelling q
-
--- what an item may be
-abbrev pub Fits : Item → Type 0
-Fits Simple = Unit {0}
-Fits (Disk d) = IsName d.path × IsShape d.shift d.blocks
-Fits (Config name) = IsName name
-Fits (Script name) = IsName name
-Fits (Journal name) = IsName name
-Fits (Queue q) = IsName q.capsules × IsName q.responses
-
--- an empty line and one that begins with `#`
-abbrev pub IsPassedOver : List ℕ → Type 0
-IsPassedOver [] = Unit {0}
-IsPassedOver (b ∷ line) = b ≡ 35
-
--- each line is passed over or spells the next item
-abbrev pub Spell : List (List ℕ) → List Item → Type 0
-Spell [] items = items ≡ []
-Spell (line ∷ lines) items =
-    (IsPassedOver line × Spell lines items)
-    ⊎ ((item : Item) × (rest : List Item) × (items ≡ item ∷ rest) × (line ≡ spelling item) × Fits item × Spell lines rest)
-
--- the items of a plan's bytes
-pub record HasItems (bytes : List ℕ) (items : List Item) : Type 0 where
-  pub lines : List (List ℕ)
-  pub head : lines_of bytes ≡ codes "nvmet-plan 1" ∷ lines
-  pub rest : Spell lines items
+use Rattle.plan_files.specs.Spelling.{spelling, fits}
 
 -- a plan that says nothing yet
 abbrev pub no_plan : Plan
@@ -71,12 +26,86 @@ with_item p (Script name) = record p { script = Some name }
 with_item p (Journal name) = record p { journal = Some name }
 with_item p (Queue q) = record p { queues = p.queues ++ q ∷ [] }
 
--- the plan that the items make
-abbrev pub plan_of : List Item → Plan
-plan_of items = fold with_item no_plan items
+-- ---- what a line may add to the lines before it
+
+abbrev pub has_name : Option (List ℕ) → List ℕ → Bool
+has_name None name = false
+has_name (Some n) name = bytes_eq n name
+
+-- whether no earlier line has this file name
+unfoldable pub is_free : Plan → List ℕ → Bool
+is_free p name =
+    not (has_name p.config name || has_name p.script name || has_name p.journal name || list_any (λ q. bytes_eq q.capsules name || bytes_eq q.responses name) p.queues)
+
+-- not one too many of its kind, and no disk path or file name that stands already
+unfoldable pub is_new : Plan → Item → Bool
+is_new p Simple = not p.simple
+is_new p (Disk d) = not (list_any (λ e. bytes_eq e.path d.path) p.disks)
+is_new p (Config name) = not (is_some p.config) && is_free p name
+is_new p (Script name) = not (is_some p.script) && is_free p name
+is_new p (Journal name) = not (is_some p.journal) && is_free p name
+is_new p (Queue q) = is_free p q.capsules && is_free p q.responses && not (bytes_eq q.capsules q.responses)
+
+-- a simple plan names no other file, and has at most one disk and one queue, by port 1
+unfoldable pub agrees : Plan → Bool
+agrees p =
+    not p.simple
+    || not (is_some p.config) && not (is_some p.script) && not (is_some p.journal) && nat_le (length p.disks) 1 && nat_le (length p.queues) 1 && list_all (λ q. q.port == 1) p.queues
+
+-- a simple plan has one disk and one queue, another one a configuration and a journal
+unfoldable pub is_complete : Plan → Bool
+is_complete p = if p.simple then length p.disks == 1 && length p.queues == 1 else (is_some p.config && is_some p.journal)
+
+abbrev pub disk_bytes : DiskLine → ℕ
+disk_bytes d = d.blocks * 2 ^ d.shift
+
+abbrev pub total_of : List DiskLine → ℕ
+total_of disks = sum_by disk_bytes disks
+
+-- the bytes of the disk that an item adds
+abbrev pub item_bytes : Item → ℕ
+item_bytes Simple = 0
+item_bytes (Disk d) = disk_bytes d
+item_bytes (Config name) = 0
+item_bytes (Script name) = 0
+item_bytes (Journal name) = 0
+item_bytes (Queue q) = 0
+
+-- the plan, where its newest disk has so many bytes, or the first limit that it passes: 64 disks, 16 MiB in one disk,
+-- 256 MiB in all disks, 31 queues
+unfoldable pub within : Plan → ℕ → Result Plan PlanError
+within p bytes =
+    if nat_lt 64 (length p.disks) then Err (errors.TooLong Disks (length p.disks)) else
+    (if nat_lt 16777216 bytes then Err (errors.TooLong DiskBytes bytes) else
+    (if nat_lt 268435456 (total_of p.disks) then Err (errors.TooLong AllDiskBytes (total_of p.disks)) else
+    (if nat_lt 31 (length p.queues) then Err (errors.TooLong Queues (length p.queues)) else
+    Ok p)))
+
+-- ---- a plan, line after line
+
+-- an empty line and one that begins with `#` are passed over
+abbrev pub is_passed_over : List ℕ → Bool
+is_passed_over [] = true
+is_passed_over (b ∷ line) = b == 35
+
+-- what an item may add to a plan
+pub record IsAllowed (p : Plan) (item : Item) : Type 0 where
+  pub new : is_new p item ≡ true
+  pub agrees : agrees (with_item p item) ≡ true
+  pub disks : length (with_item p item).disks ≤ 64
+  pub bytes : item_bytes item ≤ 16777216
+  pub total : total_of (with_item p item).disks ≤ 268435456
+  pub queues : length (with_item p item).queues ≤ 31
+
+-- these lines make the first plan the second: each is passed over, or spells an item that may be added
+abbrev pub Adds : List (List ℕ) → Plan → Plan → Type 0
+Adds [] p plan = (plan ≡ p) × (is_complete p ≡ true)
+Adds (line ∷ lines) p plan =
+    ((is_passed_over line ≡ true) × Adds lines p plan)
+    ⊎ ((is_passed_over line ≡ false) × (item : Item) × (line ≡ spelling item) × (fits item ≡ true) × IsAllowed p item × Adds lines (with_item p item) plan)
 
 -- the plan in these bytes
 pub record IsPlan (bytes : List ℕ) (plan : Plan) : Type 0 where
-  pub items : List Item
-  pub read : HasItems bytes items
-  pub made : plan ≡ plan_of items
+  pub lines : List (List ℕ)
+  pub head : lines_of bytes ≡ codes "nvmet-plan 1" ∷ lines
+  pub rest : Adds lines no_plan plan

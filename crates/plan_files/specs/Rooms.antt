@@ -1,5 +1,5 @@
 -- How many bytes of responses, and how many records, the capsules of a file can need.
-use Rattle.std.specs.Prelude.{ℕ, ◌+◌, ◌*◌, List, nat_le, if◌then◌else◌}
+use Rattle.std.specs.Prelude.{ℕ, ◌+◌, List, nat_le, if◌then◌else◌}
 use Rattle.std.specs.List.{sum_by}
 use Rattle.sqe_cqe.specs.declared.sqe.Sqe.{Sqe}
 use Rattle.sqe_cqe.specs.declared.way.Direction.{Direction}

@@ -1,5 +1,5 @@
 -- A map of files in memory after a write.
-use Rattle.std.specs.Prelude.{◌≡◌, ℕ, List, Option, Result, Vec, String}
+use Rattle.std.specs.Prelude.{ℕ, List, Option, Result, Vec, String}
 use Rattle.std.specs.declared.alloc.Global.{Global}
 use Rattle.std.specs.BTreeMap.{BTreeMap, get_by_text}
 use Rattle.std.specs.Option.{option_map}

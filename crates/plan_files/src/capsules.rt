@@ -1,7 +1,10 @@
-ghost use Rattle.std.specs.Prelude.{◌≡◌, ◌≤◌, ◌<◌, ◌+◌, ◌*◌, ◌^◌, IfOk, All, length, drop};
-ghost use Rattle.plan_files.specs.Capsules.{AreCapsules, IsWholeIn, capsules_in, head_of};
+// Capsule files: submission entries and the data that go with them to the controller.
+ghost use Rattle.std.specs.Prelude.{◌≡◌, ◌≤◌, ◌<◌, ◌+◌, ◌*◌, List, IfOk, Ok, All, length, drop};
+ghost use Rattle.plan_files.specs.Capsules as file;
+ghost use Rattle.plan_files.specs.Capsules.{AreCapsules, AreWithin, IsWholeIn, capsule_in, capsules_in, head_of};
+ghost use Rattle.plan_files.specs.Fronts.{Gives, front_at, capsules_of};
 ghost use Rattle.plan_files.specs.Rooms.{capsule_room, room_of};
-ghost use Rattle.plan_files.specs.declared.capsules.CapsuleError.TheVariants.{Memory};
+ghost use Rattle.plan_files.specs.declared.capsules.CapsuleError.TheVariants.{Memory, TooLong};
 
 use crate::limits::What;
 use sqe_cqe::{Direction, Sqe, data_len, direction, read_sqe};
@@ -12,6 +15,9 @@ pub const MAX_CAPSULES: usize = 65_536;
 
 /// How many bytes of data one capsule, and one transfer, has at most (MDTS 5 over pages of 4 KiB).
 pub const MAX_DATA: u32 = 131_072;
+
+/// How many bytes of room the responses to one queue file take at most: 64 MiB.
+pub const MAX_OUTPUT: u64 = 67_108_864;
 
 /// A capsule: its submission entry, and where its data stand in the file.
 #[derive(Clone, Copy, Debug)]
@@ -56,33 +62,6 @@ fn entry_at(bytes: &[u8], at: usize) -> Sqe
     read_sqe(&entry)
 }
 
-/// The capsules of a file.
-pub fn read_capsules(alloc: Global, bytes: &[u8]) -> Result<Vec<Capsule>, CapsuleError>
-    ensures spelled { IfOk result (λ v. AreCapsules bytes.now (capsules_in bytes.now v.items)) }
-    ensures whole { IfOk result (λ v. All (IsWholeIn bytes.now) v.items) }
-{
-    let mut capsules = Vec::new(alloc);
-    let mut at = 0;
-    while at < bytes.len() {
-        if bytes.len() - at < 64 {
-            return Err(CapsuleError::Cut { offset: 0 });
-        }
-        let sqe = entry_at(bytes, at);
-        let len = data_len(&sqe);
-        if bytes.len() - at - 64 < len {
-            return Err(CapsuleError::Cut { offset: 0 });
-        }
-        let capsule = Capsule {
-            sqe,
-            data_at: at + 64,
-            data_len: len,
-        };
-        capsules.push(capsule)?;
-        at += 64 + len;
-    }
-    Ok(capsules)
-}
-
 // The room that a capsule with this entry needs.
 #[tactic(auto, unfolding(crate::specs::Rooms::capsule_room))]
 fn room_for(e: &Sqe) -> u64
@@ -93,6 +72,86 @@ fn room_for(e: &Sqe) -> u64
         Direction::ToHost if e.sgl_len <= MAX_DATA => 96 + e.sgl_len as u64,
         _ => 96,
     }
+}
+
+// The capsule at an offset, after capsules that need so much room.
+#[tactic(auto, unfolding(crate::specs::Fronts::front_at))]
+fn capsule_at(bytes: &[u8], at: usize, room: u64) -> Result<Capsule, CapsuleError>
+    requires inside { at ≤ length bytes.now }
+    requires small { room ≤ 67108864 }
+    ensures exact { Gives (capsule_in bytes.now) result (front_at at room (drop at bytes.now)) }
+    ensures whole { IfOk result (IsWholeIn bytes.now) }
+    ensures place { IfOk result (λ c. c.data_at ≡ at + 64) }
+    ensures roomy { IfOk result (λ c. room + capsule_room c.sqe ≤ 67108864) }
+{
+    let cut = CapsuleError::Cut { offset: at as u64 };
+    let left = bytes.len() - at;
+    if left < 64 {
+        return Err(cut);
+    }
+    let sqe = entry_at(bytes, at);
+    let data_len = data_len(&sqe);
+    if data_len > MAX_DATA as usize {
+        return Err(too_long(What::Data, data_len as u64));
+    }
+    if left < 64 + data_len {
+        return Err(cut);
+    }
+    let room = room + room_for(&sqe);
+    if room > MAX_OUTPUT {
+        return Err(too_long(What::Output, room));
+    }
+    let data_at = at + 64;
+    Ok(Capsule {
+        sqe,
+        data_at,
+        data_len,
+    })
+}
+
+fn too_long(what: What, count: u64) -> CapsuleError
+    ensures { result ≡ TooLong what count }
+{
+    CapsuleError::TooLong { what, count }
+}
+
+// The capsules of a file, or its first fault.
+fn all_capsules(alloc: Global, bytes: &[u8]) -> Result<Vec<Capsule>, CapsuleError>
+    ensures exact { Gives (λ v. capsules_in bytes.now v.items) result (capsules_of bytes.now) }
+    ensures whole { IfOk result (λ v. All (IsWholeIn bytes.now) v.items) }
+{
+    let mut capsules = Vec::new(alloc);
+    let mut at = 0;
+    let mut room = 160;
+    while at < bytes.len() {
+        if capsules.len() >= MAX_CAPSULES {
+            return Err(too_long(What::Capsules, 65_537));
+        }
+        let capsule = capsule_at(bytes, at, room)?;
+        room += room_for(&capsule.sqe);
+        at = capsule.data_at + capsule.data_len;
+        capsules.push(capsule)?;
+    }
+    Ok(capsules)
+}
+
+/// The capsules of a file, one after another with nothing between or after them: an entry of 64
+/// bytes and, where its data go to the controller, as many bytes as its SGL length says.
+///
+/// The answer is exact: the capsules, or the first cut or passed limit of the file. The limits are
+/// 65,536 capsules, 131,072 bytes of data in one, and 67,108,864 bytes of `room`.
+pub fn read_capsules(alloc: Global, bytes: &[u8]) -> Result<Vec<Capsule>, CapsuleError>
+    // What is read is spelled so, within the limits.
+    ensures spelled { IfOk result (λ v. AreCapsules bytes.now (capsules_in bytes.now v.items)) }
+    ensures within { IfOk result (λ v. AreWithin (capsules_in bytes.now v.items)) }
+    // What is spelled so is read, unless memory runs out.
+    ensures only { (cs : List file.Capsule) → AreWithin cs → AreCapsules bytes.now cs → Gives (λ v. capsules_in bytes.now v.items) result (Ok cs) }
+    // Which fault it is.
+    ensures exact { Gives (λ v. capsules_in bytes.now v.items) result (capsules_of bytes.now) }
+    // Where the data stand.
+    ensures whole { IfOk result (λ v. All (IsWholeIn bytes.now) v.items) }
+{
+    all_capsules(alloc, bytes)
 }
 
 /// How many bytes the responses to these capsules take at most: 160 and, for each capsule, 96 and

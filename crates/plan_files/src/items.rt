@@ -1,3 +1,4 @@
+// Plans as values: their items, and lists of them that contracts see as lists.
 use mem_bdev::{DiskLine, Name};
 use std::alloc::AllocFailed;
 use std::marker::Model;

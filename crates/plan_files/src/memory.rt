@@ -4,6 +4,7 @@ ghost use Rattle.std.specs.Option.{option_map};
 ghost use Rattle.plan_files.specs.Kept.{kept_call};
 ghost use Rattle.plan_files.specs.Outside.{ReadGives, WriteGives};
 ghost use Rattle.plan_files.specs.Stored.{holds, StoredAt};
+ghost use Rattle.plan_files.specs.Adapters.{calls_of, failing, count_of, sink_room, sink_failing};
 
 use crate::faults::{KeptCall, has_risen, kept, raised};
 use crate::outside::{FileError, Files, Sink, SinkFault, WriteError};
@@ -29,6 +30,8 @@ impl MemFiles {
         ensures tells { IsTrue (⟦<MemFiles as Files>⟧.tells result) }
         ensures faults { ⟦<MemFiles as Files>⟧.faults result ≡ 0 }
         ensures last { ⟦<MemFiles as Files>⟧.last result ≡ None }
+        ensures calls { calls_of result ≡ 0 }
+        ensures failing { failing result ≡ fails.items }
     {
         MemFiles {
             alloc,
@@ -46,6 +49,8 @@ impl MemFiles {
         ensures stored { WriteGives true (⟦<MemFiles as Files>⟧.told self.old) (⟦<MemFiles as Files>⟧.told self.new) name.now bytes.now result }
         ensures faults { ⟦<MemFiles as Files>⟧.faults self.new ≡ ⟦<MemFiles as Files>⟧.faults self.old }
         ensures last { ⟦<MemFiles as Files>⟧.last self.new ≡ ⟦<MemFiles as Files>⟧.last self.old }
+        ensures calls { calls_of self.new ≡ calls_of self.old }
+        ensures failing { failing self.new ≡ failing self.old }
         ensures never { result ≢ Err WriteError.Failed }
     {
         stored(self.alloc, &mut self.files, name, bytes)
@@ -62,12 +67,16 @@ impl MemFiles {
     }
 
     /// How many names hold something.
-    pub fn count(&self) -> usize {
+    pub fn count(&self) -> usize
+        ensures { result ≡ count_of self.now }
+    {
         self.files.len()
     }
 
     /// How many calls of `read` and `write` there were.
-    pub fn calls(&self) -> u64 {
+    pub fn calls(&self) -> u64
+        ensures { result ≡ calls_of self.now }
+    {
         self.calls
     }
 
@@ -175,6 +184,8 @@ impl MemSink {
     pub fn new(alloc: Global, room: usize, fails: Vec<u64>) -> Result<Self, AllocError>
         ensures taken { IfOk result (λ s. ⟦<MemSink as Sink>⟧.taken s ≡ Some []) }
         ensures faults { IfOk result (λ s. ⟦<MemSink as Sink>⟧.faults s ≡ 0) }
+        ensures room { IfOk result (λ s. sink_room s ≡ room) }
+        ensures failing { IfOk result (λ s. sink_failing s ≡ fails.items) }
     {
         let bytes = Vec::with_capacity(alloc, room)?;
         Ok(MemSink {

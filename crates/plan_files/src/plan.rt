@@ -1,17 +1,39 @@
-ghost use Rattle.std.specs.Prelude.{◌≡◌, ◌<◌, ◌≤◌, ◌∷◌, ◌++◌, length, IsTrue, IfOk, OnOk};
+// Plans, line after line.
+ghost use Rattle.std.specs.Prelude.{◌≡◌, ◌⊎◌, ◌*◌, ◌^◌, ◌<◌, ◌≤◌, ◌+◌, ◌∷◌, ◌||◌, ◌&&◌, ◌==◌, not, true, length, IfOk, OnOk, OnErr, Ok, Err};
+ghost use Rattle.std.specs.List.{list_any, list_all};
+ghost use Rattle.std.specs.Str.{bytes_eq};
 ghost use Rattle.plan_files.specs.Lines.{lines_of};
-ghost use Rattle.plan_files.specs.Plans.{IsName, Fits, HasItems, Spell, IsPassedOver, IsPlan, spelling, disk_spelling, queue_spelling, no_plan, with_item, plan_of};
-ghost use Rattle.plan_files.specs.declared.plan.PlanError.TheVariants.{Memory};
+ghost use Rattle.plan_files.specs.Spelling.{fits};
+ghost use Rattle.plan_files.specs.Plans.{IsPlan, no_plan, with_item, has_name, is_free, is_new, agrees, is_complete, item_bytes, total_of, within, is_passed_over};
+ghost use Rattle.plan_files.specs.declared.items.Plan as file;
+ghost use Rattle.plan_files.specs.PlanReading.{Fails, Leaves, Gives, item_taken, line_taken, plan_from, plan_in};
+ghost use Rattle.plan_files.specs.declared.plan.PlanError.TheVariants.{Memory, BadLine, TooLong};
 
 use crate::items::{DiskLines, Item, Plan, QueueLine, QueueLines};
 use crate::limits::What;
-use mem_bdev::{DiskLine, Name};
+use crate::line_items::line_item;
+use mem_bdev::Name;
 use std::alloc::{AllocError, AllocFailed, Global};
+
+/// How many disks a plan has at most.
+pub const MAX_DISKS: usize = 64;
+
+/// How many bytes one disk has at most: 16 MiB.
+pub const MAX_DISK_BYTES: u64 = 16_777_216;
+
+/// How many bytes all disks of a plan have at most: 256 MiB.
+pub const MAX_ALL_DISK_BYTES: u64 = 268_435_456;
+
+/// How many queues a plan has at most.
+pub const MAX_QUEUES: usize = 31;
 
 /// Why a plan was not read.
 #[derive(Clone, Copy, Debug, PartialEq, Eq)]
 pub enum PlanError {
-    /// A line is bad; the number counts from 1.
+    /// A line is bad: of no known form, one too many of its kind, with a disk path or a file name
+    /// that stands already, or forbidden by `simple`. The number counts from 1, passed over lines
+    /// among them, and stands still at 4,294,967,295. What is missing at the end is missed on the
+    /// line after the last.
     BadLine { line: u32 },
     /// A limit is passed; the count is the counted number where it first passes it.
     TooLong { what: What, count: u64 },
@@ -35,6 +57,18 @@ impl<T: Drop> From<AllocFailed<T>> for PlanError {
     }
 }
 
+fn bad_line(line: u32) -> PlanError
+    ensures { result ≡ BadLine line }
+{
+    PlanError::BadLine { line }
+}
+
+fn too_long(what: What, count: u64) -> PlanError
+    ensures { result ≡ TooLong what count }
+{
+    PlanError::TooLong { what, count }
+}
+
 // The first line, and what follows it.
 fn cut_line(bytes: &[u8]) -> (&[u8], &[u8])
     requires { 0 < length bytes.now }
@@ -52,170 +86,8 @@ fn cut_line(bytes: &[u8]) -> (&[u8], &[u8])
     }
 }
 
-fn number(word: &[u8]) -> Option<u64> {
-    match str::from_utf8(word) {
-        Ok(text) => text.parse::<u64>().ok(),
-        Err(_) => None,
-    }
-}
-
-// The words of a line, up to four.
-#[derive(Clone, Copy)]
-struct Words<'a> {
-    words: [&'a [u8]; 4],
-}
-
-fn words_of(line: &[u8]) -> Words<'_> {
-    let none: &[u8] = &line[..0];
-    let mut words = [none, none, none, none];
-    let mut count = 0;
-    let mut rest = line;
-    for _ in 0..line.len() {
-        if count >= 4 || rest.is_empty() {
-            break;
-        }
-        let end = word_end(rest);
-        words[count] = &rest[..end];
-        count += 1;
-        let (_, after) = rest.split_at(end);
-        rest = match after {
-            [_, tail @ ..] => tail,
-            [] => none,
-        };
-    }
-    Words { words }
-}
-
-fn word_end(bytes: &[u8]) -> usize
-    ensures { result ≤ length bytes.now }
-{
-    bytes.iter().position(|b| *b == 32).unwrap_or(bytes.len())
-}
-
-// An item that the line may spell.
-fn guessed(alloc: Global, line: &[u8]) -> Result<Item, PlanError> {
-    let [kind, first, second, third] = words_of(line).words;
-    if kind == b"simple".as_slice() {
-        return Ok(Item::Simple);
-    }
-    if kind == b"disk".as_slice() {
-        let (Some(shift), Some(blocks)) = (number(second), number(third)) else {
-            return Err(PlanError::BadLine { line: 1 });
-        };
-        if shift > 12 {
-            return Err(PlanError::BadLine { line: 1 });
-        }
-        let path = Name::copied(alloc, first)?;
-        return Ok(Item::Disk(DiskLine {
-            path,
-            shift: shift as u8,
-            blocks,
-        }));
-    }
-    if kind == b"config".as_slice() {
-        return Ok(Item::Config(Name::copied(alloc, first)?));
-    }
-    if kind == b"script".as_slice() {
-        return Ok(Item::Script(Name::copied(alloc, first)?));
-    }
-    if kind == b"journal".as_slice() {
-        return Ok(Item::Journal(Name::copied(alloc, first)?));
-    }
-    let Some(port) = number(first) else {
-        return Err(PlanError::BadLine { line: 1 });
-    };
-    if port > 65_535 {
-        return Err(PlanError::BadLine { line: 1 });
-    }
-    let capsules = Name::copied(alloc, second)?;
-    let responses = Name::copied(alloc, third)?;
-    Ok(Item::Queue(QueueLine {
-        port: port as u16,
-        capsules,
-        responses,
-    }))
-}
-
-fn spelled_disk(alloc: Global, d: &DiskLine) -> Result<Vec<u8>, AllocError>
-    ensures { IfOk result (λ v. v.items ≡ disk_spelling d.now) }
-{
-    let mut text = Vec::from_slice(alloc, b"disk ")?;
-    text.extend_from_slice(d.path.as_bytes())?;
-    text.extend_from_slice(b" ")?;
-    let shift = d.shift.to_string(alloc)?;
-    text.extend_from_slice(shift.as_bytes())?;
-    text.extend_from_slice(b" ")?;
-    let blocks = d.blocks.to_string(alloc)?;
-    text.extend_from_slice(blocks.as_bytes())?;
-    Ok(text)
-}
-
-fn spelled_queue(alloc: Global, q: &QueueLine) -> Result<Vec<u8>, AllocError>
-    ensures { IfOk result (λ v. v.items ≡ queue_spelling q.now) }
-{
-    let mut text = Vec::from_slice(alloc, b"queue ")?;
-    let port = q.port.to_string(alloc)?;
-    text.extend_from_slice(port.as_bytes())?;
-    text.extend_from_slice(b" ")?;
-    text.extend_from_slice(q.capsules.as_bytes())?;
-    text.extend_from_slice(b" ")?;
-    text.extend_from_slice(q.responses.as_bytes())?;
-    Ok(text)
-}
-
-fn spelled_file(alloc: Global, kind: &[u8], name: &Name) -> Result<Vec<u8>, AllocError>
-    ensures { IfOk result (λ v. v.items ≡ kind.now ++ name.now) }
-{
-    let mut text = Vec::from_slice(alloc, kind)?;
-    text.extend_from_slice(name.as_bytes())?;
-    Ok(text)
-}
-
-fn spelled(alloc: Global, item: &Item) -> Result<Vec<u8>, AllocError>
-    ensures { IfOk result (λ v. v.items ≡ spelling item.now) }
-{
-    match item {
-        Item::Simple => Vec::from_slice(alloc, b"simple"),
-        Item::Disk(d) => spelled_disk(alloc, d),
-        Item::Config(name) => spelled_file(alloc, b"config ", name),
-        Item::Script(name) => spelled_file(alloc, b"script ", name),
-        Item::Journal(name) => spelled_file(alloc, b"journal ", name),
-        Item::Queue(q) => spelled_queue(alloc, q),
-    }
-}
-
-fn is_name(name: &Name) -> bool
-    ensures { IsTrue result → IsName name.now }
-{
-    let bytes = name.as_bytes();
-    !bytes.is_empty() && bytes.len() <= 255 && bytes.iter().all(|b| *b >= 33 && *b <= 126)
-}
-
-fn fits(item: &Item) -> bool
-    ensures { IsTrue result → Fits item.now }
-{
-    match item {
-        Item::Simple => true,
-        Item::Disk(d) => is_name(&d.path) && d.is_shape(),
-        Item::Config(name) | Item::Script(name) | Item::Journal(name) => is_name(name),
-        Item::Queue(q) => is_name(&q.capsules) && is_name(&q.responses),
-    }
-}
-
-// The item that a line spells.
-fn item_of(alloc: Global, line: &[u8]) -> Result<Item, PlanError>
-    ensures { IfOk result (λ item. (line.now ≡ spelling item) × Fits item) }
-{
-    let item = guessed(alloc, line)?;
-    let text = spelled(alloc, &item)?;
-    if text.as_slice() == line && fits(&item) {
-        return Ok(item);
-    }
-    Err(PlanError::BadLine { line: 1 })
-}
-
 fn is_passed_over(line: &[u8]) -> bool
-    ensures { IsTrue result → IsPassedOver line.now }
+    ensures { result ≡ is_passed_over line.now }
 {
     match line {
         [] => true,
@@ -223,41 +95,152 @@ fn is_passed_over(line: &[u8]) -> bool
     }
 }
 
-// The items of some lines.
-fn items_in(alloc: Global, lines: &[u8]) -> Result<Vec<Item>, PlanError>
-    ensures { IfOk result (λ v. Spell (lines_of lines.now) v.items) }
+fn has_name(slot: &Option<Name>, name: &[u8]) -> bool
+    ensures { result ≡ has_name slot.now name.now }
 {
-    let mut items = Vec::new(alloc);
-    let mut rest = lines;
-    while !rest.is_empty() {
-        let (line, after) = cut_line(rest);
-        if !is_passed_over(line) {
-            let item = item_of(alloc, line)?;
-            items.push(item)?;
-        }
-        rest = after;
+    match slot {
+        None => false,
+        Some(n) => n.as_bytes() == name,
     }
-    Ok(items)
 }
 
-// The items of a plan.
-fn items_of(alloc: Global, bytes: &[u8]) -> Result<Vec<Item>, PlanError>
-    ensures { IfOk result (λ v. HasItems bytes.now v.items) }
+fn names_queue(queue: &QueueLine, name: &[u8]) -> bool
+    ensures { result ≡ (bytes_eq queue.now.capsules name.now || bytes_eq queue.now.responses name.now) }
 {
-    if bytes.is_empty() {
-        return Err(PlanError::BadLine { line: 1 });
+    queue.capsules.as_bytes() == name || queue.responses.as_bytes() == name
+}
+
+fn names_a_queue(queues: &[QueueLine], name: &[u8]) -> bool
+    ensures { result ≡ list_any (λ q. bytes_eq q.capsules name.now || bytes_eq q.responses name.now) queues.now }
+{
+    queues.iter().any(|q| names_queue(q, name))
+}
+
+// Whether no earlier line has this file name.
+#[tactic(auto, unfolding(crate::specs::Plans::is_free))]
+fn is_free(plan: &Plan, name: &[u8]) -> bool
+    ensures { result ≡ is_free plan.now name.now }
+{
+    !(has_name(&plan.config, name)
+        || has_name(&plan.script, name)
+        || has_name(&plan.journal, name)
+        || names_a_queue(plan.queues.as_slice(), name))
+}
+
+fn has_path(plan: &Plan, path: &[u8]) -> bool
+    ensures { result ≡ list_any (λ e. bytes_eq e.path path.now) plan.now.disks }
+{
+    plan.disks
+        .as_slice()
+        .iter()
+        .any(|d| d.path.as_bytes() == path)
+}
+
+fn is_new_queue(plan: &Plan, q: &QueueLine) -> bool
+    ensures { result ≡ (is_free plan.now q.now.capsules && is_free plan.now q.now.responses && not (bytes_eq q.now.capsules q.now.responses)) }
+{
+    is_free(plan, q.capsules.as_bytes())
+        && is_free(plan, q.responses.as_bytes())
+        && q.capsules.as_bytes() != q.responses.as_bytes()
+}
+
+// Whether an item is not one too many, and has no path or name that stands already.
+#[tactic(auto, unfolding(crate::specs::Plans::is_new))]
+fn is_new(plan: &Plan, item: &Item) -> bool
+    ensures { result ≡ is_new plan.now item.now }
+{
+    match item {
+        Item::Simple => !plan.simple,
+        Item::Disk(d) => !has_path(plan, d.path.as_bytes()),
+        Item::Config(name) => plan.config.is_none() && is_free(plan, name.as_bytes()),
+        Item::Script(name) => plan.script.is_none() && is_free(plan, name.as_bytes()),
+        Item::Journal(name) => plan.journal.is_none() && is_free(plan, name.as_bytes()),
+        Item::Queue(q) => is_new_queue(plan, q),
     }
-    let (head, lines) = cut_line(bytes);
-    if head != b"nvmet-plan 1".as_slice() {
-        return Err(PlanError::BadLine { line: 1 });
+}
+
+fn all_by_port_one(queues: &[QueueLine]) -> bool
+    ensures { result ≡ list_all (λ q. q.port == 1) queues.now }
+{
+    queues.iter().all(|q| q.port == 1)
+}
+
+// Whether a plan has nothing that a simple plan may not have.
+#[tactic(auto, unfolding(crate::specs::Plans::agrees))]
+fn agrees(plan: &Plan) -> bool
+    ensures { result ≡ agrees plan.now }
+{
+    if !plan.simple {
+        return true;
     }
-    let items = items_in(alloc, lines)?;
-    Ok(items)
+    let no_files = plan.config.is_none() && plan.script.is_none() && plan.journal.is_none();
+    let few = plan.disks.as_slice().len() <= 1 && plan.queues.as_slice().len() <= 1;
+    no_files && few && all_by_port_one(plan.queues.as_slice())
+}
+
+// Whether nothing is missing.
+#[tactic(auto, unfolding(crate::specs::Plans::is_complete))]
+fn is_complete(plan: &Plan) -> bool
+    ensures { result ≡ is_complete plan.now }
+{
+    if plan.simple {
+        return plan.disks.as_slice().len() == 1 && plan.queues.as_slice().len() == 1;
+    }
+    plan.config.is_some() && plan.journal.is_some()
+}
+
+fn disk_bytes(shift: u8, blocks: u64) -> u64
+    requires known { (shift ≡ 9) ⊎ (shift ≡ 12) }
+    requires small { blocks < 2 ^ 52 }
+    ensures { result ≡ blocks * 2 ^ shift }
+{
+    if shift == 9 {
+        return blocks * 512;
+    }
+    blocks * 4096
+}
+
+// The bytes of the disk that an item adds.
+fn item_bytes(item: &Item) -> u64
+    requires { fits item.now ≡ true }
+    ensures { result ≡ item_bytes item.now }
+{
+    match item {
+        Item::Disk(d) => disk_bytes(d.shift, d.blocks),
+        _ => 0,
+    }
+}
+
+// The first limit that the plan passes, where its newest disk has so many bytes.
+#[tactic(auto, unfolding(crate::specs::Plans::within))]
+fn within(plan: &Plan, bytes: u64, before: u64) -> Result<u64, PlanError>
+    requires total { total_of plan.now.disks ≡ before + bytes }
+    requires small { before ≤ 268435456 }
+    ensures exact { Leaves plan.now result (within plan.now bytes) }
+    ensures total { IfOk result (λ total. (total ≡ total_of plan.now.disks) × (total ≤ 268435456)) }
+{
+    let disks = plan.disks.as_slice().len();
+    if disks > MAX_DISKS {
+        return Err(too_long(What::Disks, disks as u64));
+    }
+    if bytes > MAX_DISK_BYTES {
+        return Err(too_long(What::DiskBytes, bytes));
+    }
+    let total = before + bytes;
+    if total > MAX_ALL_DISK_BYTES {
+        return Err(too_long(What::AllDiskBytes, total));
+    }
+    let queues = plan.queues.as_slice().len();
+    if queues > MAX_QUEUES {
+        return Err(too_long(What::Queues, queues as u64));
+    }
+    Ok(total)
 }
 
 // Adds an item to a plan.
 fn add(plan: &mut Plan, item: Item) -> Result<(), PlanError>
-    ensures { OnOk result (plan.new ≡ with_item plan.old item) }
+    ensures added { OnOk result (plan.new ≡ with_item plan.old item) }
+    ensures memory { OnErr result (result ≡ Err Memory) }
 {
     match item {
         Item::Simple => plan.simple = true,
@@ -283,22 +266,97 @@ fn empty_plan(alloc: Global) -> Plan
     }
 }
 
-// The plan that the items make.
-fn made(alloc: Global, items: Vec<Item>) -> Result<Plan, PlanError>
-    ensures { IfOk result (λ plan. plan ≡ plan_of items.items) }
+// Adds an item that stands on this line. The answer is the bytes of all disks then.
+#[tactic(auto, unfolding(crate::specs::PlanReading::item_taken))]
+fn take_item(plan: &mut Plan, before: u64, line: u32, item: Item) -> Result<u64, PlanError>
+    requires total { before ≡ total_of plan.old.disks }
+    requires small { before ≤ 268435456 }
+    requires fits { fits item ≡ true }
+    ensures exact { Leaves plan.new result (item_taken line plan.old item) }
+    ensures total { IfOk result (λ total. (total ≡ total_of plan.new.disks) × (total ≤ 268435456)) }
+{
+    if !is_new(plan, &item) {
+        return Err(bad_line(line));
+    }
+    let bytes = item_bytes(&item);
+    add(plan, item)?;
+    if !agrees(plan) {
+        return Err(bad_line(line));
+    }
+    within(plan, bytes, before)
+}
+
+// Adds what a line says. The answer is the bytes of all disks then.
+#[tactic(auto, unfolding(crate::specs::PlanReading::line_taken))]
+fn take_line(
+    alloc: Global,
+    plan: &mut Plan,
+    before: u64,
+    number: u32,
+    line: &[u8],
+) -> Result<u64, PlanError>
+    requires total { before ≡ total_of plan.old.disks }
+    requires small { before ≤ 268435456 }
+    ensures exact { Leaves plan.new result (line_taken number plan.old line.now) }
+    ensures total { IfOk result (λ total. (total ≡ total_of plan.new.disks) × (total ≤ 268435456)) }
+{
+    if is_passed_over(line) {
+        return Ok(before);
+    }
+    match line_item(alloc, line)? {
+        None => Err(bad_line(number)),
+        Some(item) => take_item(plan, before, number, item),
+    }
+}
+
+// The plan that the lines after the first make.
+fn plan_after(alloc: Global, lines: &[u8]) -> Result<Plan, PlanError>
+    ensures { Gives result (plan_from 2 no_plan (lines_of lines.now)) }
 {
     let mut plan = empty_plan(alloc);
-    for item in items {
-        add(&mut plan, item)?;
+    let mut total = 0;
+    let mut number = 2u32;
+    let mut rest = lines;
+    while !rest.is_empty() {
+        let (line, after) = cut_line(rest);
+        total = take_line(alloc, &mut plan, total, number, line)?;
+        number = number.saturating_add(1);
+        rest = after;
+    }
+    if !is_complete(&plan) {
+        return Err(bad_line(number));
     }
     Ok(plan)
 }
 
-/// The plan that the bytes spell.
-pub fn read_plan(alloc: Global, bytes: &[u8]) -> Result<Plan, PlanError>
-    ensures { IfOk result (λ plan. IsPlan bytes.now plan) }
+// The plan in a file's bytes, or its first fault.
+#[tactic(auto, unfolding(crate::specs::PlanReading::plan_in))]
+fn whole_plan(alloc: Global, bytes: &[u8]) -> Result<Plan, PlanError>
+    ensures { Gives result (plan_in bytes.now) }
 {
-    let items = items_of(alloc, bytes)?;
-    let plan = made(alloc, items)?;
-    Ok(plan)
+    if bytes.is_empty() {
+        return Err(bad_line(1));
+    }
+    let (head, lines) = cut_line(bytes);
+    if head != b"nvmet-plan 1".as_slice() {
+        return Err(bad_line(1));
+    }
+    plan_after(alloc, lines)
+}
+
+/// The plan in a file's bytes.
+///
+/// The first line is `nvmet-plan 1`. The others are, in any order, `simple`, `disk PATH SHIFT
+/// BLOCKS`, `config FILE`, `script FILE`, `journal FILE` and `queue PORT CAPSULES RESPONSES`; an
+/// empty line and one that begins with `#` are passed over. The answer is exact: the plan, or the
+/// first bad line or passed limit, whichever stands earlier; in one line a bad form comes first.
+pub fn read_plan(alloc: Global, bytes: &[u8]) -> Result<Plan, PlanError>
+    // What is read is spelled so.
+    ensures spelled { IfOk result (λ plan. IsPlan bytes.now plan) }
+    // What is spelled so is read, unless memory runs out.
+    ensures only { (plan : file.Plan) → IsPlan bytes.now plan → Gives result (Ok plan) }
+    // Which fault it is.
+    ensures exact { Gives result (plan_in bytes.now) }
+{
+    whole_plan(alloc, bytes)
 }

@@ -1,3 +1,4 @@
+// Response records: what a queue answered to its calls, as bytes.
 ghost use Rattle.std.specs.Prelude.{◌≡◌, ◌<◌, ◌≤◌, ◌^◌, ◌+◌, ◌++◌, length, OnOk, OnErr, IsOk};
 ghost use Rattle.std.specs.Vec.{vec_capacity};
 ghost use Rattle.plan_files.specs.Records.{record_head, record_bytes, bytes_of};
@@ -29,11 +30,11 @@ fn head(place: u32, kind: u8, answer: u8, number: u32, len: u32) -> [u8; 16]
     ensures { result ≡ record_head place kind answer number len }
 {
     let [p0, p1, p2, p3] = place.to_le_bytes();
+    let ([k], [a]) = (kind.to_le_bytes(), answer.to_le_bytes());
+    let [z0, z1] = 0u16.to_le_bytes();
     let [n0, n1, n2, n3] = number.to_le_bytes();
     let [l0, l1, l2, l3] = len.to_le_bytes();
-    [
-        p0, p1, p2, p3, kind, answer, 0, 0, n0, n1, n2, n3, l0, l1, l2, l3,
-    ]
+    [p0, p1, p2, p3, k, a, z0, z1, n0, n1, n2, n3, l0, l1, l2, l3]
 }
 
 /// Appends the record with these fields, as `write_record` does, from a payload that is only

@@ -1,5 +1,5 @@
 -- The calls of a target over one disk.
-use Rattle.std.proofs.Common.{◌≡◌, ◌≤◌, ◌<◌, ℕ, ◌+◌, ◌*◌, ◌/◌, ◌^◌, Bool, true, false, List, [], ◌∷◌, length, Option, Some, None, refl, sym, ap, subst, ◌∙◌, arith, eqb}
+use Rattle.std.proofs.Common.{◌≡◌, ◌<◌, ℕ, ◌*◌, ◌/◌, ◌^◌, true, List, [], ◌∷◌, length, Option, Some, None, refl, sym, ap, subst, ◌∙◌, arith, eqb}
 use Rattle.std.proofs.Math.Nat.{mul-div_cancel, one-le-pow}
 use Rattle.mem_bdev.specs.Blocks.{Blocks, IsWhole, IsInside, written, range_bytes}
 use Rattle.sqe_cqe.specs.declared.sqe.Sqe.{Sqe}
@@ -11,9 +11,9 @@ use Rattle.seq_target.specs.declared.calls.Reply.TheVariants as replies
 use Rattle.seq_target.specs.declared.target.Command.{Command}
 use Rattle.seq_target.specs.declared.target.Target as code
 use Rattle.seq_target.specs.Model.{Call, Submit, Execute, Control, Target, HeldCommand}
-use Rattle.seq_target.specs.Admission.{Admission, Refused, Admits, admission}
+use Rattle.seq_target.specs.Admission.{Refused, Admits, admission}
 use Rattle.seq_target.specs.Steps.{reply_of, bytes_of, changed, target_after}
-use Rattle.seq_target.specs.Stands.{StandsFor, Does, Simulates, FitsJob, Keeps, IsHolding, IsIdle, simple_admission, simple_disk}
+use Rattle.seq_target.specs.Stands.{StandsFor, Simulates, FitsJob, Keeps, IsHolding, IsIdle, simple_admission, simple_disk}
 use Rattle.seq_target.proofs.Simple.{simple_seen, simple_qid}
 
 pub admission-is : (c : code.Target) (t : Target) (e : Sqe) → StandsFor c t → admission t 1 e ≡ simple_admission e c.disk

@@ -1,5 +1,5 @@
 -- What is seen from the queue of a simple plan.
-use Rattle.std.proofs.Common.{◌≡◌, ℕ, Bool, true, false, cond, List, [], ◌∷◌, Option, Some, None, refl, eqb}
+use Rattle.std.proofs.Common.{◌≡◌, ℕ, Bool, true, false, cond, List, [], ◌∷◌, Some, None, refl, eqb}
 use Rattle.std.specs.Ordering.{nat_cmp, eq_by_cmp}
 use Rattle.std.specs.Cmp.{nat_cmp_total, unsigned_tied}
 use Rattle.mem_bdev.specs.Blocks.{Blocks}
@@ -8,9 +8,9 @@ use Rattle.std.specs.FinMap.{get-insert, get-empty}
 use Rattle.std.specs.Str.{bytes_eq}
 use Rattle.std.proofs.lemmas.Slice.Eq.{bytes_eq-Decides}
 use Rattle.seq_target.specs.declared.target.Target as code
-use Rattle.seq_target.specs.Configuration.{Namespace, namespace_at, simple_settings, simple_namespace, simple_nqn}
+use Rattle.seq_target.specs.Configuration.{namespace_at, simple_settings, simple_namespace, simple_nqn}
 use Rattle.seq_target.specs.Model.{Target, bound_at, qid_of}
-use Rattle.seq_target.specs.Admission.{Seen, Enabled, NotConfigured, seen_from, of_namespace}
+use Rattle.seq_target.specs.Admission.{Enabled, NotConfigured, seen_from, of_namespace}
 use Rattle.seq_target.specs.Stands.{StandsFor, simple_disk}
 
 simple_namespaces : (path : List ℕ) (nsid : ℕ) → namespace_at (simple_settings path) simple_nqn nsid ≡ cond (eq_by_cmp nat_cmp nsid 1) (Some (simple_namespace path)) None

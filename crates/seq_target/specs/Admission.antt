@@ -1,5 +1,5 @@
 -- What a submitted command gets: the status of its refusal, or a job and the life in which it is held.
-use Rattle.std.specs.Prelude.{ℕ, ◌+◌, ◌*◌, ◌%◌, ◌^◌, ◌==◌, nat_lt, not, ◌||◌, Bool, true, false, if◌then◌else◌, List, [], ◌∷◌, length, Option, Some, None}
+use Rattle.std.specs.Prelude.{ℕ, ◌+◌, ◌*◌, ◌%◌, ◌^◌, ◌==◌, nat_lt, not, ◌||◌, Bool, if◌then◌else◌, List, [], ◌∷◌, length, Option, Some, None}
 use Rattle.std.specs.Str.{bytes_eq}
 use Rattle.mem_bdev.specs.Blocks.{Blocks, block_size}
 use Rattle.sqe_cqe.specs.declared.sqe.Sqe.{Sqe}

@@ -11,7 +11,7 @@ use Rattle.seq_target.specs.declared.target.Command.{Command}
 use Rattle.seq_target.specs.declared.target.Target as code
 use Rattle.seq_target.specs.Configuration.{simple_settings, simple_nqn}
 use Rattle.seq_target.specs.Model.{Call, Binding, Disk, HeldCommand, Target}
-use Rattle.seq_target.specs.Admission.{Admission, Refused, Admits, admission_on, is_io, Seen, Enabled, NotConfigured, most_transfer}
+use Rattle.seq_target.specs.Admission.{Admission, Refused, Admits, admission_on, is_io, Enabled, NotConfigured, most_transfer}
 use Rattle.seq_target.specs.Steps.{is_lawful, reply_of, bytes_of, target_after}
 
 abbrev pub held_list : Option Command → List HeldCommand

@@ -1,7 +1,6 @@
 -- The step of the sequential target: where a call is lawful, what it replies, the bytes that the host gets, and the
 -- target after it. All are functions of the target and the call alone.
 use Rattle.std.specs.Prelude.{ℕ, zero, suc, not, Bool, true, List, [], ◌∷◌, ◌++◌, filter, Option, Some, None, is_some}
-use Rattle.mem_bdev.specs.Blocks.{Blocks}
 use Rattle.sqe_cqe.specs.declared.codes.TheConstants.{SUCCESS, INVALID_OPCODE}
 use Rattle.seq_target.specs.declared.calls.Job.{Job}
 use Rattle.seq_target.specs.declared.calls.Reply.{Reply}

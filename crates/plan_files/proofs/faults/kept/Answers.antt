@@ -1,4 +1,4 @@
-use Rattle.std.proofs.Common.{◌≡◌, length, take, ap, arith, refl}
+use Rattle.std.proofs.Common.{◌≡◌, length, ap, arith, refl}
 use Rattle.std.proofs.lemmas.List.{take_at, take_min, length-take}
 use Rattle.plan_files.proofs.faults.kept.Goals as goal
 

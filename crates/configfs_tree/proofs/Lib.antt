@@ -1,0 +1,10 @@
+pub mod Holding
+pub mod LowFree
+pub mod Scans
+pub mod Seen
+pub mod Texts
+pub mod Gets
+pub mod Placing
+pub mod Held
+pub mod Kept
+pub mod KeptTable

@@ -1,0 +1,8 @@
+use Rattle.std.proofs.Common.{◌==◌, sym}
+use Rattle.std.specs.FinMap as maps
+use Rattle.configfs_tree.specs.declared.subsystems.SubsystemRow.{SubsystemRow}
+use Rattle.configfs_tree.proofs.Scans.{clash, none_passes}
+use Rattle.configfs_tree.proofs.tree.Tree.subsystem.Goals as goal
+
+pub unreachable-requires : goal.unreachable-requires
+unreachable-requires c = clash _ c.requires (none_passes (λ (r : SubsystemRow). r.at == c.args.at) (maps.values c.args.self.now.settings.subsystems) (sym c.in-None.ensures))

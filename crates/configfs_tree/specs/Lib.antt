@@ -1,0 +1,17 @@
+pub mod Asked
+pub mod Drained
+pub mod Gives
+pub mod Holders
+pub mod Links
+pub mod Maps
+pub mod Nqns
+pub mod Outcome
+pub mod Phases
+pub mod Places
+pub mod Ports
+pub mod Rows
+pub mod Standing
+pub mod Start
+pub mod Subsystems
+pub mod Table
+pub mod Values

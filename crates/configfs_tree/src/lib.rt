@@ -1,0 +1,45 @@
+//! The configuration tree of the target, after the configfs tree of Linux nvmet
+//! (drivers/nvme/target/configfs.c): hosts, subsystems with their namespaces, ports with
+//! their ANA groups, and the disks that namespaces hold.
+//!
+//! Each edit of a folder is decided by one table of errnos, which `specs/Table.antt` states:
+//! a call answers the first row whose condition holds and leaves the tree as it was, or it
+//! makes the edit and tells what changed. Contracts see hosts, subsystems, namespaces, ports
+//! and groups as finite maps, and the standing facts of `specs/Standing.antt` are kept by
+//! every call.
+#![tactic(auto)]
+
+mod apply;
+mod disks;
+mod edits;
+mod host_edits;
+mod laws;
+mod limits;
+mod links;
+mod names;
+mod namespace_edits;
+mod namespaces;
+mod nqn;
+mod port_edits;
+mod ports;
+mod subsystem_edits;
+mod subsystems;
+#[cfg(test)]
+mod tests;
+mod tree;
+mod values;
+
+pub use disks::{DiskRow, Disks, Holder};
+pub use edits::{Attr, Change, Errno, Folder, FolderEdit, Refused, Touched};
+pub use laws::held_means_another;
+pub use limits::{
+    MAX_ANA_GROUPS, MAX_HOSTS, MAX_NSID, MAX_PORTS, MAX_SUBSYSTEMS, MODEL_LEN, NQN_LEN, PATH_LEN,
+    SERIAL_LEN, TRADDR_LEN, TRSVCID_LEN,
+};
+pub use links::{admits_host, serves};
+pub use names::Names;
+pub use namespaces::{NamespacePut, NamespaceRow, Namespaces, Phase};
+pub use nqn::Nqn;
+pub use ports::{AnaState, Groups, PortPut, PortRow, Ports};
+pub use subsystems::{SubsystemPut, SubsystemRow, Subsystems};
+pub use tree::{Attached, Settings, Tree};

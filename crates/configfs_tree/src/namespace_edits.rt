@@ -1,0 +1,265 @@
+// Edits of namespaces, each by its rows of the table, and the end of a drain.
+ghost use Rattle.std.specs.Prelude.{◌≡◌, Some, codes, IsTrue};
+ghost use Rattle.configfs_tree.specs.Drained.{drained};
+ghost use Rattle.configfs_tree.specs.Gives.{Gives, GivesErrno};
+ghost use Rattle.configfs_tree.specs.Phases.{phase_at};
+ghost use Rattle.configfs_tree.specs.Standing.{IsStanding};
+ghost use Rattle.configfs_tree.specs.Table.{mkdir_namespace, rmdir_namespace, set_device_path, set_device_uuid, set_device_nguid, set_ana_grpid, set_enable};
+ghost use Rattle.configfs_tree.specs.Values.{is_text};
+
+use crate::disks::Holder;
+use crate::edits::{Change, Errno, Refused, Touched};
+use crate::limits::MAX_NSID;
+use crate::namespaces::{NamespacePut, Phase};
+use crate::nqn::Nqn;
+use crate::tree::{Tree, raised};
+use crate::values::{group_number, may_be_path, parsed_uuid, stands};
+use mem_bdev::Name;
+use std::alloc::Global;
+
+impl Tree {
+    #[tactic(auto, unfolding(crate::specs::Table::mkdir_namespace, crate::specs::Outcome::first_of, crate::specs::Outcome::if_subsystem))]
+    pub(crate) fn mkdir_namespace(&mut self, sub: &Nqn, nsid: u32) -> Result<Change, Refused>
+        ensures { Gives (mkdir_namespace self.old sub.now nsid) self.old result self.new }
+    {
+        let Some(row) = self.settings.subsystems.get(sub) else {
+            return Err(Refused::Errno(Errno::ENOENT));
+        };
+        let at = row.at;
+        if nsid == 0 || nsid > MAX_NSID {
+            return Err(Refused::Errno(Errno::EINVAL));
+        }
+        if row.namespaces.get(nsid).is_some() {
+            return Err(Refused::Errno(Errno::EEXIST));
+        }
+        if self.settings.subsystems.add_namespace(sub, nsid).is_err() {
+            return Err(Refused::Memory);
+        }
+        Ok(Change::of(Touched::Namespace(at, nsid)))
+    }
+
+    #[tactic(auto, unfolding(crate::specs::Table::rmdir_namespace, crate::specs::Outcome::first_of, crate::specs::Outcome::if_subsystem, crate::specs::Outcome::if_namespace))]
+    pub(crate) fn rmdir_namespace(&mut self, sub: &Nqn, nsid: u32) -> Result<Change, Errno>
+        ensures { GivesErrno (rmdir_namespace self.old sub.now nsid) self.old result self.new }
+    {
+        let Some(row) = self.settings.subsystems.get(sub) else {
+            return Err(Errno::ENOENT);
+        };
+        let at = row.at;
+        let Some(namespace) = row.namespaces.get(nsid) else {
+            return Err(Errno::ENOENT);
+        };
+        if self.busy(at, nsid, namespace) {
+            return Err(Errno::EBUSY);
+        }
+        self.settings.subsystems.remove_namespace(sub, nsid);
+        Ok(Change::of(Touched::Namespace(at, nsid)))
+    }
+
+    #[tactic(auto, unfolding(crate::specs::Table::set_device_path, crate::specs::Outcome::first_of, crate::specs::Outcome::unless_stands, crate::specs::Outcome::if_subsystem, crate::specs::Outcome::if_namespace))]
+    pub(crate) fn set_device_path(
+        &mut self,
+        alloc: Global,
+        sub: &Nqn,
+        nsid: u32,
+        value: &[u8],
+    ) -> Result<Change, Refused>
+        ensures { Gives (set_device_path self.old sub.now nsid value.now) self.old result self.new }
+    {
+        let Some(row) = self.settings.subsystems.get(sub) else {
+            return Err(Refused::Errno(Errno::ENOENT));
+        };
+        let at = row.at;
+        let Some(namespace) = row.namespaces.get(nsid) else {
+            return Err(Refused::Errno(Errno::ENOENT));
+        };
+        if self.busy(at, nsid, namespace) {
+            return Err(Refused::Errno(Errno::EBUSY));
+        }
+        if !may_be_path(value) {
+            return Err(Refused::Errno(Errno::EINVAL));
+        }
+        if stands(&namespace.device_path, value) {
+            return Ok(Change::none());
+        }
+        let Ok(path) = Name::copied(alloc, value) else {
+            return Err(Refused::Memory);
+        };
+        self.settings
+            .subsystems
+            .put_namespace(sub, nsid, NamespacePut::Path(path));
+        Ok(Change::of(Touched::Namespace(at, nsid)))
+    }
+
+    #[tactic(auto, unfolding(crate::specs::Table::set_device_uuid, crate::specs::Outcome::first_of, crate::specs::Outcome::unless_stands, crate::specs::Outcome::if_subsystem, crate::specs::Outcome::if_namespace))]
+    pub(crate) fn set_device_uuid(
+        &mut self,
+        sub: &Nqn,
+        nsid: u32,
+        value: &[u8],
+    ) -> Result<Change, Errno>
+        requires { IsTrue (is_text value.now) }
+        ensures { GivesErrno (set_device_uuid self.old sub.now nsid value.now) self.old result self.new }
+    {
+        let Some(row) = self.settings.subsystems.get(sub) else {
+            return Err(Errno::ENOENT);
+        };
+        let at = row.at;
+        let Some(namespace) = row.namespaces.get(nsid) else {
+            return Err(Errno::ENOENT);
+        };
+        if self.busy(at, nsid, namespace) {
+            return Err(Errno::EBUSY);
+        }
+        let Some(uuid) = parsed_uuid(value) else {
+            return Err(Errno::EINVAL);
+        };
+        if namespace.uuid.as_slice() == uuid.as_slice() {
+            return Ok(Change::none());
+        }
+        self.settings
+            .subsystems
+            .put_namespace(sub, nsid, NamespacePut::Uuid(uuid));
+        Ok(Change::of(Touched::Namespace(at, nsid)))
+    }
+
+    #[tactic(auto, unfolding(crate::specs::Table::set_device_nguid, crate::specs::Outcome::first_of, crate::specs::Outcome::unless_stands, crate::specs::Outcome::if_subsystem, crate::specs::Outcome::if_namespace))]
+    pub(crate) fn set_device_nguid(
+        &mut self,
+        sub: &Nqn,
+        nsid: u32,
+        value: &[u8],
+    ) -> Result<Change, Errno>
+        requires { IsTrue (is_text value.now) }
+        ensures { GivesErrno (set_device_nguid self.old sub.now nsid value.now) self.old result self.new }
+    {
+        let Some(row) = self.settings.subsystems.get(sub) else {
+            return Err(Errno::ENOENT);
+        };
+        let at = row.at;
+        let Some(namespace) = row.namespaces.get(nsid) else {
+            return Err(Errno::ENOENT);
+        };
+        if self.busy(at, nsid, namespace) {
+            return Err(Errno::EBUSY);
+        }
+        let Some(nguid) = parsed_uuid(value) else {
+            return Err(Errno::EINVAL);
+        };
+        if namespace.nguid.as_slice() == nguid.as_slice() {
+            return Ok(Change::none());
+        }
+        self.settings
+            .subsystems
+            .put_namespace(sub, nsid, NamespacePut::Nguid(nguid));
+        Ok(Change::of(Touched::Namespace(at, nsid)))
+    }
+
+    #[tactic(auto, unfolding(crate::specs::Table::set_ana_grpid, crate::specs::Outcome::first_of, crate::specs::Outcome::unless_stands, crate::specs::Outcome::if_subsystem, crate::specs::Outcome::if_namespace))]
+    pub(crate) fn set_ana_grpid(
+        &mut self,
+        sub: &Nqn,
+        nsid: u32,
+        value: &[u8],
+    ) -> Result<Change, Errno>
+        ensures { GivesErrno (set_ana_grpid self.old sub.now nsid value.now) self.old result self.new }
+    {
+        let Some(row) = self.settings.subsystems.get(sub) else {
+            return Err(Errno::ENOENT);
+        };
+        let at = row.at;
+        let Some(namespace) = row.namespaces.get(nsid) else {
+            return Err(Errno::ENOENT);
+        };
+        let Some(group) = group_number(value) else {
+            return Err(Errno::EINVAL);
+        };
+        if namespace.group == group {
+            return Ok(Change::none());
+        }
+        self.settings
+            .subsystems
+            .put_namespace(sub, nsid, NamespacePut::Group(group));
+        self.settings.ana_count = raised(self.settings.ana_count);
+        Ok(Change::of_group(at, nsid))
+    }
+
+    #[tactic(auto, unfolding(crate::specs::Table::set_enable, crate::specs::Outcome::first_of, crate::specs::Outcome::unless_stands, crate::specs::Outcome::either, crate::specs::Outcome::if_subsystem, crate::specs::Outcome::if_namespace))]
+    pub(crate) fn set_enable(&mut self, sub: &Nqn, nsid: u32, value: &[u8]) -> Result<Change, Errno>
+        ensures { GivesErrno (set_enable self.old sub.now nsid value.now) self.old result self.new }
+    {
+        let Some(row) = self.settings.subsystems.get(sub) else {
+            return Err(Errno::ENOENT);
+        };
+        let at = row.at;
+        let Some(namespace) = row.namespaces.get(nsid) else {
+            return Err(Errno::ENOENT);
+        };
+        let was = namespace.enabled;
+        if value == b"0".as_slice() {
+            if !was {
+                return Ok(Change::none());
+            }
+            self.settings
+                .subsystems
+                .put_namespace(sub, nsid, NamespacePut::Enabled(false));
+            return Ok(Change::of_namespace(at, nsid, true));
+        }
+        if value != b"1".as_slice() {
+            return Err(Errno::EINVAL);
+        }
+        if was {
+            return Ok(Change::none());
+        }
+        if self.disks.holds(at, nsid, &namespace.device_path) {
+            return Err(Errno::EBUSY);
+        }
+        if !self.disks.has(&namespace.device_path) {
+            return Err(Errno::ENOENT);
+        }
+        if self.disks.is_held(&namespace.device_path) {
+            return Err(Errno::EBUSY);
+        }
+        if let Some(path) = &namespace.device_path {
+            self.disks
+                .hold(path.as_bytes(), Some(Holder { sub: at, nsid }));
+        }
+        self.settings
+            .subsystems
+            .put_namespace(sub, nsid, NamespacePut::Enabled(true));
+        Ok(Change::of_namespace(at, nsid, false))
+    }
+
+    /// Makes the edit set `enable` to `0`, without memory: an enabled namespace begins to drain,
+    /// another stays as it is. ENOENT is exactly where the subsystem or the namespace isn't there.
+    pub fn disable(&mut self, sub: &Nqn, nsid: u32) -> Result<Change, Errno>
+        ensures gives { GivesErrno (set_enable self.old sub.now nsid (codes "0")) self.old result self.new }
+        ensures stands { IsStanding self.old → IsStanding self.new }
+    {
+        self.set_enable(sub, nsid, b"0")
+    }
+
+    // Frees the disk that a namespace holds.
+    fn free_disk(&mut self, sub: &Nqn, nsid: u32)
+        ensures { self.new ≡ drained self.old sub.now nsid }
+    {
+        let Some(row) = self.settings.subsystems.get(sub) else {
+            return;
+        };
+        let Some(namespace) = row.namespaces.get(nsid) else {
+            return;
+        };
+        if let Some(path) = &namespace.device_path {
+            self.disks.hold(path.as_bytes(), None);
+        }
+    }
+
+    /// Ends the drain of a namespace that is draining: it becomes off, and its disk is free.
+    pub fn end_drain(&mut self, sub: &Nqn, nsid: u32)
+        requires { phase_at self.old sub.now nsid ≡ Some Phase.Draining }
+        ensures drained { self.new ≡ drained self.old sub.now nsid }
+        ensures stands { IsStanding self.old → IsStanding self.new }
+    {
+        self.free_disk(sub, nsid);
+    }
+}

@@ -1,0 +1,5 @@
+pub mod Placing
+pub mod More
+pub mod Making
+pub mod Whole
+pub mod Puts

@@ -1,0 +1,116 @@
+-- What a run that ended well has done.
+use Rattle.std.specs.Prelude.{◌≡◌, ℕ, true, List, [], ◌∷◌, ◌++◌, Option, Some, None, IfSome}
+use Rattle.mem_bdev.specs.Blocks.{IsShape}
+use Rattle.mem_bdev.specs.declared.disk.DiskLine.{DiskLine}
+use Rattle.plan_files.specs.declared.items.Plan.{Plan}
+use Rattle.plan_files.specs.declared.items.QueueLine.{QueueLine}
+use Rattle.plan_files.specs.Plans.{IsPlan}
+use Rattle.plan_files.specs.Capsules.{Capsule, AreCapsules}
+use Rattle.seq_target.specs.Model.{Target, Entry, simple_start}
+use Rattle.seq_target.specs.Legal.{IsLegal}
+use Rattle.nvmet_run.specs.Runs.{Run, Placed, IsOrdered, IsLegalRun, placed_from}
+use Rattle.nvmet_run.specs.Served.{IsServed, ServesFile}
+use Rattle.nvmet_run.specs.Printing.{responses, summary}
+
+-- what names hold, where that is told
+abbrev pub Told : Type 0
+Told = List ℕ → Option (List ℕ)
+
+-- where it is told what a name holds, it is this
+abbrev pub HoldsOf : Option (List ℕ) → List ℕ → Type 0
+HoldsOf told bytes = IfSome told (λ b. b ≡ bytes)
+
+-- ---- read
+-- the plan in the bytes of a name
+pub record ReadsPlan (told : Told) (name : List ℕ) (plan : Plan) : Type 0 where
+  pub bytes : List ℕ
+  pub held : HoldsOf (told name) bytes
+  pub read : IsPlan bytes plan
+
+-- the start of a plan with one disk
+abbrev pub Starts : List DiskLine → Target → Type 0
+Starts [] start = ⊥
+Starts (d ∷ []) start = start ≡ simple_start d
+Starts (d ∷ e ∷ disks) start = ⊥
+
+-- the target that a simple plan starts with
+pub record IsStart (told : Told) (plan : Plan) (start : Target) : Type 0 where
+  pub simple : plan.simple ≡ true
+  pub disk : Starts plan.disks start
+
+-- the capsules in the bytes of a name
+pub record ReadsCapsules (told : Told) (name : List ℕ) (file : List Capsule) : Type 0 where
+  pub bytes : List ℕ
+  pub held : HoldsOf (told name) bytes
+  pub read : AreCapsules bytes file
+
+-- the capsules in the files of the queues
+abbrev pub AreRead : Told → List QueueLine → List (List Capsule) → Type 0
+AreRead told [] [] = Unit {0}
+AreRead told [] (file ∷ files) = ⊥
+AreRead told (q ∷ queues) [] = ⊥
+AreRead told (q ∷ queues) (file ∷ files) = ReadsCapsules told q.capsules file × AreRead told queues files
+
+-- plan, start and capsules are what the files told when they were read
+pub record IsRead (told : Told) (name : List ℕ) (run : Run) : Type 0 where
+  pub plan : ReadsPlan told name run.plan
+  pub start : IsStart told run.plan run.start
+  pub files : AreRead told run.plan.queues run.files
+
+-- ---- written
+-- the response files of the queues are the prints of these lists
+abbrev pub AreWritten : Told → List QueueLine → List (List Placed) → Type 0
+AreWritten told [] [] = Unit {0}
+AreWritten told [] (list ∷ lists) = ⊥
+AreWritten told (q ∷ queues) [] = ⊥
+AreWritten told (q ∷ queues) (list ∷ lists) = HoldsOf (told q.responses) (responses list) × AreWritten told queues lists
+
+abbrev pub IsWritten : Told → Run → Type 0
+IsWritten told run = AreWritten told run.plan.queues run.queues
+
+-- where the sink tells what it took, it took this and nothing else
+abbrev pub Took : Option (List ℕ) → Option (List ℕ) → List ℕ → Type 0
+Took None new text = Unit {0}
+Took (Some old) new text = HoldsOf new (old ++ text)
+
+-- ---- the run theorem
+-- There is one run: its plan and capsules are what the files told when they were read; its callers' lists are ordered, and
+-- serve each capsule once and in its file's order; its history is a legal one of the sequential target; the response
+-- files hold its prints, and the sink took its summary and nothing else.
+pub record Ran (told_before told_after : Told) (taken_before taken_after : Option (List ℕ)) (name : List ℕ) : Type 0 where
+  pub run : Run
+  pub read : IsRead told_before name run
+  pub ordered : IsOrdered run
+  pub served : IsServed run
+  pub legal : IsLegalRun run
+  pub written : IsWritten told_after run
+  pub put : Took taken_before taken_after (summary run)
+
+-- ---- the run of a simple plan, by its parts
+-- a simple plan with this disk and this queue
+pub record IsSimpleOf (plan : Plan) (disk : DiskLine) (queue : QueueLine) : Type 0 where
+  pub simple : plan.simple ≡ true
+  pub disks : plan.disks ≡ disk ∷ []
+  pub queues : plan.queues ≡ queue ∷ []
+  pub shape : IsShape disk.shift disk.blocks
+
+-- the run of one queue that was served alone
+abbrev pub alone : Plan → DiskLine → List Capsule → List Entry → Run
+alone plan disk file history = record {
+  plan = plan;
+  start = simple_start disk;
+  files = file ∷ [];
+  editor = [];
+  queues = placed_from 0 history ∷ [];
+  history = history;
+}
+
+-- a queue's file was read and served from the start of a simple plan, and these are its records and its summary
+pub record ServedPlan (told : Told) (plan : Plan) (disk : DiskLine) (queue : QueueLine) (records text : List ℕ) : Type 0 where
+  pub file : List Capsule
+  pub read : ReadsCapsules told queue.capsules file
+  pub history : List Entry
+  pub served : ServesFile 1 0 file (placed_from 0 history)
+  pub legal : IsLegal (simple_start disk) history
+  pub records_are : records ≡ responses (placed_from 0 history)
+  pub text_is : text ≡ summary (alone plan disk file history)

@@ -1,0 +1,9 @@
+pub mod Runs
+pub mod Served
+pub mod Printing
+pub mod Prints
+pub mod Goes
+pub mod Headline
+pub mod Commands
+pub mod Codes
+pub mod Texts

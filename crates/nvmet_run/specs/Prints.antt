@@ -1,0 +1,26 @@
+-- What an output holds of a queue's list.
+use Rattle.std.specs.Prelude.{◌≡◌, ℕ, List, length}
+use Rattle.seq_target.specs.declared.calls.Reply.{Reply}
+use Rattle.nvmet_run.specs.declared.output.Kind.{Kind}
+use Rattle.nvmet_run.specs.declared.output.Output.{Output}
+use Rattle.nvmet_run.specs.Runs.{Placed}
+use Rattle.nvmet_run.specs.Printing.{responses, kind_of, number_of, payload_count, submits_in, executes_in, refusals_in, bytes_taken, bytes_given}
+
+-- its records are the list's, and its counts the list's
+pub record Prints (o : Output) (list : List Placed) : Type 0 where
+  pub records : o.records.items ≡ responses list
+  pub places : o.places ≡ length list
+  pub submitted : o.submitted ≡ submits_in list
+  pub executed : o.executed ≡ executes_in list
+  pub refused : o.refused ≡ refusals_in list
+  pub taken : o.taken ≡ bytes_taken list
+  pub given : o.given ≡ bytes_given list
+
+-- what the record of an entry and the summary show of it
+pub record IsRecordOf (p : Placed) (place : ℕ) (kind : Kind) (number : ℕ) (reply : Reply) (payload : ℕ) (bytes : List ℕ) : Type 0 where
+  pub is_place : p.place ≡ place
+  pub is_kind : kind_of p.entry.call ≡ kind
+  pub is_number : number_of p.entry.call ≡ number
+  pub is_reply : p.entry.reply ≡ reply
+  pub is_payload : payload_count p.entry.call ≡ payload
+  pub is_bytes : p.entry.bytes ≡ bytes

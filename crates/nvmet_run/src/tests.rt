@@ -1,0 +1,256 @@
+use super::*;
+use plan_files::{MemFiles, MemSink, OpenGate};
+use sqe_cqe::{Sqe, write_sqe};
+use std::alloc::Global;
+use std::sync::Wait;
+use std::test::Fail;
+use std::thread::Threads;
+
+// What a run over files in memory left.
+#[derive(Drop)]
+struct Outcome {
+    status: Status,
+    files: MemFiles,
+    out: MemSink,
+}
+
+impl Outcome {
+    fn text(&self) -> &[u8] {
+        self.out.bytes()
+    }
+
+    fn records(&self) -> &[u8] {
+        match self.files.content("r1") {
+            Some(bytes) => bytes,
+            None => &[],
+        }
+    }
+}
+
+const PLAN: &[u8] = b"nvmet-plan 1\nsimple\ndisk /dev/ram0 9 16\nqueue 1 q1 r1\n";
+
+// Runs the words over a plan and a queue file; the calls on files of these numbers fail.
+fn run_words<R: Wait + Threads + Sync>(
+    rt: &R,
+    alloc: Global,
+    words: &[&str],
+    plan: &[u8],
+    q1: &[u8],
+    fails: Vec<u64>,
+) -> Result<Outcome, Fail> {
+    let mut files = MemFiles::new(alloc, fails);
+    files.put("p", plan)?;
+    files.put("q1", q1)?;
+    let mut out = MemSink::new(alloc, 4096, Vec::new(alloc))?;
+    let mut owned = Vec::new(alloc);
+    for word in words {
+        owned.push(String::from_str(alloc, word)?)?;
+    }
+    let status = command(rt, alloc, &owned, &mut files, &mut out, &OpenGate);
+    Ok(Outcome { status, files, out })
+}
+
+fn run<R: Wait + Threads + Sync>(
+    rt: &R,
+    alloc: Global,
+    plan: &[u8],
+    q1: &[u8],
+) -> Result<Outcome, Fail> {
+    run_words(rt, alloc, &["run", "p"], plan, q1, Vec::new(alloc))
+}
+
+// A submission entry with flags 40h.
+fn entry(opcode: u8, cid: u16, nsid: u32, slba: u64, nlb: u16, sgl_len: u32) -> Sqe {
+    Sqe {
+        opcode,
+        flags: 0x40,
+        cid,
+        nsid,
+        cdw2: 0,
+        cdw3: 0,
+        mptr: 0,
+        sgl_addr: 0,
+        sgl_len,
+        sgl_rest: [0; 4],
+        cdw10: (slba % 0x1_0000_0000) as u32,
+        cdw11: (slba / 0x1_0000_0000) as u32,
+        cdw12: u32::from(nlb),
+        cdw13: 0,
+        cdw14: 0,
+        cdw15: 0,
+    }
+}
+
+// The head and completion of a record without data, by the format's table.
+fn record(place: u8, kind: u8, answer: u8, number: u8, cid: u8, status: u16) -> [u8; 32] {
+    let [low, high] = status.to_le_bytes();
+    let id = if answer == 1 { 1 } else { 0 };
+    [
+        place, 0, 0, 0, kind, answer, 0, 0, number, 0, 0, 0, 0, 0, 0, 0, 0, 0, 0, 0, 0, 0, 0, 0, 0,
+        0, id, 0, cid, 0, low, high,
+    ]
+}
+
+#[test]
+fn a_write_and_a_read_of_eight_blocks(rt: HostRuntime) -> Result<(), Fail> {
+    let mut block = Vec::new(rt.alloc());
+    for i in 0..4096u32 {
+        block.push((i * 7 % 251) as u8)?;
+    }
+    let mut q1 = Vec::from_slice(rt.alloc(), &write_sqe(&entry(0x01, 1, 1, 0, 7, 4096)))?;
+    q1.extend_from_slice(&block)?;
+    q1.extend_from_slice(&write_sqe(&entry(0x02, 2, 1, 0, 7, 4096)))?;
+    assert_eq!(rt; q1.len(), 4224);
+    assert_eq!(rt; &q1[..8], [0x01, 0x40, 1, 0, 1, 0, 0, 0].as_slice());
+    let run = run(&rt, rt.alloc(), PLAN, &q1)?;
+    assert_eq!(rt; run.status, Status::Fine);
+    let mut want = Vec::new(rt.alloc());
+    want.extend_from_slice(&record(0, 1, 0, 0, 0, 0))?;
+    want.extend_from_slice(&record(1, 2, 1, 0, 1, 0))?;
+    want.extend_from_slice(&record(2, 1, 0, 1, 0, 0))?;
+    let mut last = record(3, 2, 1, 1, 2, 0);
+    last[13] = 0x10;
+    want.extend_from_slice(&last)?;
+    want.extend_from_slice(&block)?;
+    assert_eq!(rt; run.records().len(), 4224);
+    assert_eq!(rt; run.records(), want.as_slice());
+    let text =
+        b"places 4\nedits 0 accepted 0 refused\ndrains 0\ncommands 2 submitted 2 executed 0 refused\nevents 0 answered 0 waiting\nbytes 4096 in 4096 out\nconfig 0 passed over\n";
+    assert_eq!(rt; run.text(), text.as_slice());
+    Ok(())
+}
+
+#[test]
+fn an_empty_queue_file(rt: HostRuntime) -> Result<(), Fail> {
+    let run = run(&rt, rt.alloc(), PLAN, b"")?;
+    assert_eq!(rt; run.status, Status::Fine);
+    assert!(rt; run.records().is_empty());
+    let text =
+        b"places 0\nedits 0 accepted 0 refused\ndrains 0\ncommands 0 submitted 0 executed 0 refused\nevents 0 answered 0 waiting\nbytes 0 in 0 out\nconfig 0 passed over\n";
+    assert_eq!(rt; run.text(), text.as_slice());
+    Ok(())
+}
+
+#[test]
+fn a_disk_of_large_blocks(rt: HostRuntime) -> Result<(), Fail> {
+    let plan = b"nvmet-plan 1\n# blocks of 4,096 bytes\nqueue 1 q1 r1\ndisk /dev/ram1 12 2\nsimple";
+    let mut q1 = Vec::from_slice(rt.alloc(), &write_sqe(&entry(0x01, 1, 1, 1, 0, 4096)))?;
+    q1.extend_from_slice(&[9; 4096])?;
+    q1.extend_from_slice(&write_sqe(&entry(0x02, 2, 1, 0, 1, 8192)))?;
+    let run = run(&rt, rt.alloc(), plan, &q1)?;
+    assert_eq!(rt; run.status, Status::Fine);
+    let records = run.records();
+    assert_eq!(rt; records.len(), 128 + 8192);
+    assert_eq!(rt; records[128 + 4095], 0);
+    assert_eq!(rt; records[128 + 4096], 9);
+    assert_eq!(rt; records[128 + 8191], 9);
+    Ok(())
+}
+
+// The status of one command without data, and how many records it made: two where it was held.
+#[test]
+fn each_check_at_its_boundary(rt: HostRuntime) -> Result<(), Fail> {
+    let plan = b"nvmet-plan 1\nsimple\ndisk /dev/ram0 9 1024\nqueue 1 q1 r1\n";
+    for (opcode, nsid, slba, nlb, len, held, status) in [
+        (0x02, 1, 1023, 0, 512, true, 0),
+        (0x02, 1, 1022, 1, 1024, true, 0),
+        (0x02, 1, 1023, 1, 1024, false, 0x8100),
+        (0x02, 1, 1024, 0, 512, false, 0x8100),
+        (0x02, 1, u64::MAX, 0, 512, false, 0x8100),
+        (0x02, 1, 0, 0, 511, false, 0x801e),
+        (0x02, 1, 0, 0, 513, false, 0x801e),
+        (0x02, 1, 0, 255, 131_072, true, 0),
+        (0x02, 1, 0, 256, 131_584, false, 0x8004),
+        (0x02, 2, 0, 0, 512, false, 0x8016),
+        (0x02, 0, 0, 0, 512, false, 0x8016),
+        (0x02, u32::MAX, 5000, 0, 1, false, 0x8016),
+        (0x00, 1, 0, 0, 0, false, 0x8002),
+        (0x7e, 2, 0, 0, 0, false, 0x8002),
+    ] {
+        let q1 = write_sqe(&entry(opcode, 5, nsid, slba, nlb, len));
+        let run = run(&rt, rt.alloc(), plan, &q1)?;
+        assert_eq!(rt; run.status, Status::Fine);
+        let want = if held {
+            record(0, 1, 0, 0, 0, 0)
+        } else {
+            record(0, 1, 1, 0, 5, status)
+        };
+        let records = run.records();
+        assert!(rt; records.len() >= 32);
+        assert_eq!(rt;
+            &records[..32],
+            want.as_slice(),
+            "opcode {opcode}, SLBA {slba}, NLB {nlb}, length {len}"
+        );
+        assert_eq!(rt;
+            records.len() > 32,
+            held,
+            "opcode {opcode}, SLBA {slba}, NLB {nlb}, length {len}"
+        );
+    }
+    Ok(())
+}
+
+#[test]
+fn a_short_write_and_a_fabrics_command(rt: HostRuntime) -> Result<(), Fail> {
+    let mut q1 = Vec::from_slice(rt.alloc(), &write_sqe(&entry(0x01, 3, 1, 0, 0, 511)))?;
+    q1.extend_from_slice(&[1; 511])?;
+    q1.extend_from_slice(&write_sqe(&entry(0x7f, 4, 4, 0, 0, 0)))?;
+    let run = run(&rt, rt.alloc(), PLAN, &q1)?;
+    assert_eq!(rt; run.status, Status::Fine);
+    let mut want = Vec::new(rt.alloc());
+    want.extend_from_slice(&record(0, 1, 1, 0, 3, 0x801e))?;
+    want.extend_from_slice(&record(1, 4, 1, 1, 4, 0x8002))?;
+    assert_eq!(rt; run.records(), want.as_slice());
+    Ok(())
+}
+
+#[test]
+fn every_other_status_has_its_line(rt: HostRuntime) -> Result<(), Fail> {
+    let usage = "usage: nvmetd run PLAN | check PLAN | show PLAN | gen N NAME\n";
+    for words in [
+        [].as_slice(),
+        &["run"],
+        &["run", "--", "p"],
+        &["run", "-p"],
+        &["run", "p q"],
+        &["run", ""],
+        &["go", "p"],
+        &["gen", "0", "g"],
+    ] {
+        let run = run_words(&rt, rt.alloc(), words, PLAN, b"", Vec::new(rt.alloc()))?;
+        assert_eq!(rt; run.status.code(), 1);
+        assert_eq!(rt; run.text(), usage.as_bytes());
+        assert_eq!(rt; run.files.calls(), 0);
+    }
+    let cut = [0; 66];
+    let long = write_sqe(&entry(0x01, 1, 1, 0, 0, 131_073));
+    let plain = b"nvmet-plan 1\nconfig c\njournal j\n";
+    for (plan, q1, code, line) in [
+        (
+            b"nvmet-plan 1\ndisc x\n".as_slice(),
+            b"".as_slice(),
+            2,
+            "malformed p line 2\n",
+        ),
+        (plain, b"", 2, "malformed p line 4\n"),
+        (PLAN, &cut, 2, "malformed q1 offset 64\n"),
+        (PLAN, &long, 6, "limit q1 data 131073\n"),
+    ] {
+        let run = run(&rt, rt.alloc(), plan, q1)?;
+        assert_eq!(rt; run.status.code(), code, "{line}");
+        assert_eq!(rt; run.text(), line.as_bytes(), "{line}");
+        assert_eq!(rt; run.files.content("r1"), None, "{line}");
+    }
+    for (call, code, line) in [
+        (0, 3, "cannot read p\n"),
+        (1, 3, "cannot read q1\n"),
+        (2, 4, "cannot write r1\n"),
+    ] {
+        let fails = Vec::from_slice(rt.alloc(), &[call])?;
+        let run = run_words(&rt, rt.alloc(), &["run", "p"], PLAN, b"", fails)?;
+        assert_eq!(rt; run.status.code(), code, "{line}");
+        assert_eq!(rt; run.text(), line.as_bytes(), "{line}");
+    }
+    Ok(())
+}

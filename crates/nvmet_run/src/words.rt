@@ -1,0 +1,69 @@
+ghost use Rattle.std.specs.Prelude.{◌≡◌, ◌↔◌, ℕ, List, Some, None, IfSome, IfNone, MatchOption, IsTrue};
+ghost use Rattle.std.specs.List.{list_all};
+ghost use Rattle.nvmet_run.specs.Headline.{Ran};
+ghost use Rattle.nvmet_run.specs.Commands.{plan_named, is_plan_name, is_visible};
+
+use crate::report::put_usage;
+use crate::run::run_plan;
+use crate::status::Status;
+use plan_files::{Files, Gate, Sink};
+use std::alloc::Global;
+use std::sync::Wait;
+use std::thread::Threads;
+
+// Whether a word may name a plan.
+fn names_a_plan(word: &str) -> bool
+    ensures { result ≡ is_plan_name word.now }
+{
+    let bytes = word.as_bytes();
+    if bytes.is_empty() || bytes.len() > 255 {
+        return false;
+    }
+    are_visible(bytes) && bytes[0] != 45
+}
+
+// Whether each byte is one from 21h to 7Eh.
+fn are_visible(bytes: &[u8]) -> bool
+    ensures { result ≡ list_all is_visible bytes.now }
+{
+    bytes.iter().all(|b| 32 < *b && *b < 127)
+}
+
+// The plan's name, where the words are `run` and a name.
+fn plan_of(words: &[String]) -> Option<&str>
+    ensures { MatchOption result (plan_named words.now ≡ None) (λ plan. plan_named words.now ≡ Some plan.now) }
+{
+    match words {
+        [verb, name] => {
+            if verb.as_str() == "run" && names_a_plan(name.as_str()) {
+                Some(name.as_str())
+            } else {
+                None
+            }
+        }
+        _ => None,
+    }
+}
+
+/// The top call: reads the words of the command line and runs the command.
+///
+/// The one command is `run PLAN`, PLAN being 1 to 255 bytes from 21h to 7Eh that don't begin with `-`. Any other words are
+/// a usage fault.
+pub fn command<R: Wait + Threads + Sync, F: Files, K: Sink, G: Gate + Sync>(
+    rt: &R,
+    alloc: Global,
+    words: &[String],
+    files: &mut F,
+    out: &mut K,
+    gate: &G,
+) -> Status
+    ensures fine { result ≡ Status.Fine → ((plan : List ℕ) × (plan_named words.now ≡ Some plan) × Ran (F.told files.old) (F.told files.new) (K.taken out.old) (K.taken out.new) plan) }
+{
+    match plan_of(words) {
+        Some(plan) => run_plan(rt, alloc, plan, files, out, gate),
+        None => {
+            let _ = put_usage(out);
+            Status::Usage
+        }
+    }
+}

@@ -1,0 +1,45 @@
+use Rattle.std.proofs.Common.{◌≡◌, ◌+◌, ◌++◌, ◌∷◌, [], length, drop, arith, length-drop}
+use Rattle.std.proofs.lemmas.Result.{err_from_is_err_and}
+use Rattle.std.proofs.lemmas.List.{map_push, length-append, drop-drop, drop_all}
+use Rattle.std.proofs.lemmas.List.Elements.{All-push}
+use Rattle.sqe_cqe.specs.Sqe.{payload_len}
+use Rattle.plan_files.specs.Capsules.{IsWholeIn, capsule_in, capsules_in}
+use Rattle.plan_files.specs.Fronts.{capsules_of}
+use Rattle.plan_files.proofs.Fronting.{goes_on, ends, is_full, is_done}
+use Rattle.plan_files.proofs.capsules.all_capsules.Goals as goal
+
+pub returns-then-len-ge-MAX_CAPSULES-clause-exact :
+    goal.returns-then-len-ge-MAX_CAPSULES-clause-exact
+returns-then-len-ge-MAX_CAPSULES-clause-exact c =
+    let bytes = c.args.bytes.now in
+    let len = length-drop c.loop-at.at bytes in
+    rw c.too_long.ensures (is_full (capsules_in bytes c.loop-at.capsules.items) _ _ _ _ _ (omega arith) (omega (arith, len)) c.loop-at.invariant.so_far)
+
+pub returns-in_err-capsule-clause-exact : goal.returns-in_err-capsule-clause-exact
+returns-in_err-capsule-clause-exact c =
+    let bytes = c.args.bytes.now in
+    let len = length-drop c.loop-at.at bytes in
+    let p = err_from_is_err_and c.from_residual.result c.from_residual.ensures.1 in
+    rw (p.1, p.2) (ends c.in_err-capsule.field-0.0 (capsules_in bytes c.loop-at.capsules.items) 65536 (length c.loop-at.capsules.items) c.loop-at.at c.loop-at.room (drop c.loop-at.at bytes) (capsules_of bytes) (omega arith) (omega (arith, len)) c.in_err-capsule.ensures.exact c.loop-at.invariant.so_far)
+
+pub loop-at-preserved : goal.loop-at-preserved
+loop-at-preserved c =
+    let bytes = c.args.bytes.now in
+    let one = c.in_ok-capsule.capsule in
+    let front = c.loop-at.capsules.items in
+    let rest = length-drop c.loop-at.at bytes in
+    let is = c.in_ok-capsule.ensures in
+    let more : c.push.new.self.items ≡ front ++ one ∷ [] = c.in_ok-push.ensures.items in
+    let count : length (front ++ one ∷ []) ≡ length front + 1 = length-append front (one ∷ []) in
+    let at : one.data_at + one.data_len ≡ c.loop-at.at + (64 + payload_len one.sqe) = omega (arith, is.place, is.whole.len) in
+    let now = goes_on (capsules_in bytes front) 65536 (length front) c.loop-at.at c.loop-at.room (drop c.loop-at.at bytes) (capsule_in bytes one) (capsules_of bytes) (omega arith) (omega (arith, rest)) is.exact c.loop-at.invariant.so_far in
+    record {
+      inside = is.whole.within;
+      few = rw (more, count) (omega arith);
+      small = rw c.room_for-room.ensures.value is.roomy;
+      so_far = rw (more, count, c.room_for-room.ensures.value, at, map_push, ← drop-drop) now;
+      whole = rw more (All-push (IsWholeIn bytes) front one c.loop-at.invariant.whole is.whole);
+    }
+
+pub returns-clause-exact : goal.returns-clause-exact
+returns-clause-exact c = is_done _ _ _ _ _ _ (drop_all c.loop-at.at c.args.bytes.now c.loop-at-test.false) c.loop-at.invariant.so_far

@@ -1,0 +1,49 @@
+-- Reading capsules from the front of a file: the capsules, or the first cut or passed limit.
+use Rattle.std.specs.Prelude.{◌≡◌, ℕ, zero, suc, ◌+◌, List, [], ◌∷◌, length, drop, nat_lt, if◌then◌else◌, Result, Ok, Err}
+use Rattle.sqe_cqe.specs.Sqe.{payload_len}
+use Rattle.plan_files.specs.Capsules.{Capsule, capsule_of, head_of}
+use Rattle.plan_files.specs.Rooms.{capsule_room}
+use Rattle.plan_files.specs.declared.capsules.CapsuleError.{CapsuleError}
+use Rattle.plan_files.specs.declared.capsules.CapsuleError.TheVariants as errors
+use Rattle.plan_files.specs.declared.limits.What.TheVariants.{Capsules, Data, Output}
+
+-- What a call answered, seen by `view`, is what reading gives, unless memory ran out.
+abbrev pub Fails : {Y : Type 0} → CapsuleError → Result Y CapsuleError → Type 0
+Fails errors.Memory read = Unit {0}
+Fails (errors.Cut offset) read = read ≡ Err (errors.Cut offset)
+Fails (errors.TooLong what count) read = read ≡ Err (errors.TooLong what count)
+
+abbrev pub Gives : {X Y : Type 0} → (X → Y) → Result X CapsuleError → Result Y CapsuleError → Type 0
+Gives view (Ok x) read = read ≡ Ok (view x)
+Gives view (Err e) read = Fails e read
+
+-- The capsule at the front of what is left from the offset `at` on, after capsules that need this room. In one capsule
+-- a cut entry comes first, then data that are too long, then cut data, then too much room.
+unfoldable pub front_at : ℕ → ℕ → List ℕ → Result Capsule CapsuleError
+front_at at room bytes =
+    if nat_lt (length bytes) 64 then Err (errors.Cut at) else
+    (if nat_lt 131072 (payload_len (head_of bytes)) then Err (errors.TooLong Data (payload_len (head_of bytes))) else
+    (if nat_lt (length bytes) (64 + payload_len (head_of bytes)) then Err (errors.Cut at) else
+    (if nat_lt 67108864 (room + capsule_room (head_of bytes)) then Err (errors.TooLong Output (room + capsule_room (head_of bytes))) else
+    Ok (capsule_of bytes))))
+
+infixl 10 ◌>>=◌
+abbrev pub ◌>>=◌ : {A B : Type 0} → Result A CapsuleError → (A → Result B CapsuleError) → Result B CapsuleError
+(Ok x) >>= f = f x
+(Err e) >>= f = Err e
+
+-- how many bytes a capsule takes in its file
+abbrev pub width : Capsule → ℕ
+width c = 64 + payload_len c.entry
+
+-- the capsules from the offset `at` on, where so many more are allowed
+unfoldable pub capsules_from : ℕ → ℕ → ℕ → List ℕ → Result (List Capsule) CapsuleError
+capsules_from left at room [] = Ok []
+capsules_from zero at room (b ∷ bytes) = Err (errors.TooLong Capsules 65537)
+capsules_from (suc left) at room (b ∷ bytes) =
+    front_at at room (b ∷ bytes) >>= λ c.
+    capsules_from left (at + width c) (room + capsule_room c.entry) (drop (width c) (b ∷ bytes)) >>= λ cs. Ok (c ∷ cs)
+
+-- the capsules of a file, or its first fault
+abbrev pub capsules_of : List ℕ → Result (List Capsule) CapsuleError
+capsules_of bytes = capsules_from 65536 0 160 bytes
