@@ -1,5 +1,6 @@
 // Response records: what a queue answered to its calls, as bytes.
-ghost use Rattle.std.specs.Prelude.{◌≡◌, ◌<◌, ◌≤◌, ◌^◌, ◌+◌, ◌++◌, length, OnOk, OnErr, IsOk};
+ghost use Rattle.std.specs.Prelude.{◌≡◌, ◌<◌, ◌≤◌, ◌^◌, ◌+◌, ◌++◌, length, OnOk, OnErr, IsOk, is_ok, if◌then◌else◌};
+ghost use Rattle.sqe_cqe.specs.Cqe.{cqe_bytes};
 ghost use Rattle.std.specs.Vec.{vec_capacity};
 ghost use Rattle.plan_files.specs.Records.{record_head, record_bytes, bytes_of};
 
@@ -37,6 +38,28 @@ fn head(place: u32, kind: u8, answer: u8, number: u32, len: u32) -> [u8; 16]
     [p0, p1, p2, p3, k, a, z0, z1, n0, n1, n2, n3, l0, l1, l2, l3]
 }
 
+// The 32 bytes before the data, as one piece.
+fn front(place: u32, kind: u8, answer: u8, number: u32, len: u32, cqe: &Cqe) -> [u8; 32]
+    ensures { result ≡ record_head place kind answer number len ++ cqe_bytes cqe.now }
+{
+    let mut bytes = [0; 32];
+    bytes[..16].copy_from_slice(&head(place, kind, answer, number, len));
+    bytes[16..].copy_from_slice(&write_cqe(cqe));
+    bytes
+}
+
+// Appends bytes, of which there are often none.
+fn append(bytes: &[u8], to: &mut Vec<u8>) -> Result<(), AllocError>
+    ensures items { to.new.items ≡ (if is_ok result then to.old.items ++ bytes.now else to.old.items) }
+    ensures full { OnErr result (vec_capacity to.old < length to.old.items + length bytes.now) }
+    ensures capacity { vec_capacity to.old ≤ vec_capacity to.new }
+{
+    if bytes.is_empty() {
+        return Ok(());
+    }
+    to.extend_from_slice(bytes)
+}
+
 /// Appends the record with these fields, as `write_record` does, from a payload that is only
 /// borrowed: its bytes are copied once.
 ///
@@ -58,10 +81,9 @@ pub fn put_record(
     ensures capacity { vec_capacity to.old ≤ vec_capacity to.new }
 {
     to.reserve(32 + payload.len())?;
-    to.extend_from_slice(&head(place, kind, answer, number, payload.len() as u32))?;
-    to.extend_from_slice(&write_cqe(cqe))?;
-    to.extend_from_slice(payload)?;
-    Ok(())
+    let front = front(place, kind, answer, number, payload.len() as u32, cqe);
+    to.extend_from_slice(&front)?;
+    append(payload, to)
 }
 
 /// Appends a record: its 16 bytes of head, the completion, the data; little-endian.
