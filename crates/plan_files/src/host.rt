@@ -1,5 +1,5 @@
 // The real files and standard output. They tell nothing of contents.
-ghost use Rattle.std.specs.Prelude.{◌≡◌, ◌≤◌, ◌<◌, ◌+◌, None, false, length};
+ghost use Rattle.std.specs.Prelude.{◌≡◌, ◌≤◌, ◌<◌, ◌+◌, None, false, length, take, IfOk, IfSome};
 ghost use Rattle.std.specs.Option.{option_map};
 ghost use Rattle.plan_files.specs.Outside.{ReadGives};
 ghost use Rattle.plan_files.specs.Kept.{kept_call};
@@ -9,27 +9,52 @@ use crate::outside::{FileError, Files, Sink, SinkFault, WriteError};
 use std::io::{Read, Write};
 use std::{fs, io, rt};
 
+// The most bytes that one read asks the system for.
+const PIECE: usize = 65_536;
+
+// Reads at most `room` bytes into their place after the first `at` bytes, and says how many came.
+// None where there is no memory. What a short read leaves of the room serves the next one.
+fn read_piece<S: Read>(
+    source: &mut S,
+    at: usize,
+    room: usize,
+    into: &mut Vec<u8>,
+) -> Option<io::Result<usize>>
+    requires at { at ≤ length into.old.items }
+    requires room { length into.old.items ≤ at + room }
+    requires small { room ≤ 65536 }
+    ensures front { take at into.new.items ≡ take at into.old.items }
+    ensures room { (at ≤ length into.new.items) × (length into.new.items ≤ at + room) }
+    ensures count { IfSome result (λ r. IfOk r (λ n. at + n ≤ length into.new.items)) }
+{
+    if into.resize(at + room, 0).is_err() {
+        return None;
+    }
+    Some(source.read(&mut into[at..]))
+}
+
 // Appends what is left of a source, at most `limit` bytes, or `limit + 1` bytes of more.
 fn read_all<S: Read>(source: &mut S, limit: usize, into: &mut Vec<u8>) -> Result<(), FileError>
     ensures { ReadGives None limit into.old.items into.new.items result }
 {
     let start = into.len();
-    let mut piece = [0; 4096];
-    while into.len() - start <= limit {
-        let room = (limit - (into.len() - start)).min(4095) + 1;
-        match source.read(&mut piece[..room]) {
-            Err(_) => {
+    let mut filled = start;
+    while filled - start <= limit {
+        let room = (limit - (filled - start)).min(PIECE - 1) + 1;
+        match read_piece(source, filled, room, into) {
+            None => {
+                into.truncate(start);
+                return Err(FileError::Memory);
+            }
+            Some(Err(_)) => {
                 into.truncate(start);
                 return Err(FileError::Failed);
             }
-            Ok(0) => return Ok(()),
-            Ok(count) => match into.extend_from_slice(&piece[..count]) {
-                Ok(()) => {}
-                Err(_) => {
-                    into.truncate(start);
-                    return Err(FileError::Memory);
-                }
-            },
+            Some(Ok(0)) => {
+                into.truncate(filled);
+                return Ok(());
+            }
+            Some(Ok(count)) => filled += count,
         }
     }
     Err(FileError::TooLong)
