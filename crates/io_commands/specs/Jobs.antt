@@ -29,10 +29,20 @@ blocks_after d (Flush disk) payload = d
 abbrev pub most_transfer : ℕ
 most_transfer = 131072
 
--- the job is in range of so many blocks of 2 ^ shift bytes, a Read's bytes fit a transfer, and a Write's data have the
--- length of its blocks
+-- the job's blocks are among so many
+abbrev pub InRange : Job → ℕ → Type 0
+InRange (Read disk lba count) blocks = lba + count ≤ blocks
+InRange (Write disk lba count) blocks = lba + count ≤ blocks
+InRange (Zero disk lba count) blocks = lba + count ≤ blocks
+InRange (Flush disk) blocks = Unit {0}
+
+-- a Read's bytes fit a transfer, and a Write's data have the length of its blocks, of 2 ^ shift bytes
+abbrev pub HasLength : Job → ℕ → ℕ → Type 0
+HasLength (Read disk lba count) shift len = count * 2 ^ shift ≤ most_transfer
+HasLength (Write disk lba count) shift len = len ≡ count * 2 ^ shift
+HasLength (Zero disk lba count) shift len = Unit {0}
+HasLength (Flush disk) shift len = Unit {0}
+
+-- the job may be done on so many blocks of 2 ^ shift bytes, with so many bytes of data
 abbrev pub FitsJob : Job → ℕ → ℕ → ℕ → Type 0
-FitsJob (Read disk lba count) shift blocks len = (lba + count ≤ blocks) × (count * 2 ^ shift ≤ most_transfer)
-FitsJob (Write disk lba count) shift blocks len = (lba + count ≤ blocks) × (len ≡ count * 2 ^ shift)
-FitsJob (Zero disk lba count) shift blocks len = lba + count ≤ blocks
-FitsJob (Flush disk) shift blocks len = Unit {0}
+FitsJob job shift blocks len = InRange job blocks × HasLength job shift len

@@ -1,5 +1,5 @@
 ghost use Rattle.std.specs.Prelude.{◌≡◌, length};
-ghost use Rattle.io_commands.specs.Jobs.{FitsJob, blocks_after, bytes_read};
+ghost use Rattle.io_commands.specs.Jobs.{InRange, FitsJob, blocks_after, bytes_read};
 
 use mem_bdev::{Buffer, Disk};
 
@@ -37,6 +37,21 @@ pub fn change(job: &Job, disk: &mut Disk, payload: &[u8])
             count,
         } => disk.zero(lba, u64::from(count)),
         Job::Read { .. } | Job::Flush { .. } => {}
+    }
+}
+
+/// Lends the bytes that a job reads, without a copy: those of a Read's blocks, and none for the other jobs.
+pub fn lend<'d>(job: &Job, disk: &'d Disk) -> &'d [u8]
+    requires { InRange job.now (length disk.now.blocks) }
+    ensures { result.now ≡ bytes_read disk.now job.now }
+{
+    match *job {
+        Job::Read {
+            disk: _,
+            lba,
+            count,
+        } => disk.range(lba, u64::from(count)),
+        Job::Write { .. } | Job::Zero { .. } | Job::Flush { .. } => &[],
     }
 }
 

@@ -10,4 +10,4 @@ mod admit;
 mod jobs;
 
 pub use admit::admit_io;
-pub use jobs::{Admit, Job, change, do_io};
+pub use jobs::{Admit, Job, change, do_io, lend};
