@@ -1,4 +1,5 @@
-ghost use Rattle.std.specs.Prelude.{◌≡◌, length};
+ghost use Rattle.std.specs.Prelude.{◌≡◌, ◌≤◌, length};
+ghost use Rattle.mem_bdev.specs.Blocks.{most_bytes};
 ghost use Rattle.io_commands.specs.Jobs.{InRange, FitsJob, blocks_after, bytes_read};
 
 use mem_bdev::{Buffer, Disk};
@@ -40,10 +41,12 @@ pub fn change(job: &Job, disk: &mut Disk, payload: &[u8])
     }
 }
 
-/// Lends the bytes that a job reads, without a copy: those of a Read's blocks, and none for the other jobs.
+/// Lends the bytes that a job reads, without a copy: those of a Read's blocks, at most 16 MiB, and none for the other
+/// jobs.
 pub fn lend<'d>(job: &Job, disk: &'d Disk) -> &'d [u8]
     requires { InRange job.now (length disk.now.blocks) }
-    ensures { result.now ≡ bytes_read disk.now job.now }
+    ensures value { result.now ≡ bytes_read disk.now job.now }
+    ensures short { length result.now ≤ most_bytes }
 {
     match *job {
         Job::Read {

@@ -8,6 +8,8 @@
 
 mod admit;
 mod jobs;
+#[cfg(test)]
+mod tests;
 
 pub use admit::admit_io;
 pub use jobs::{Admit, Job, change, do_io, lend};

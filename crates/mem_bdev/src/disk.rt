@@ -17,7 +17,8 @@ fn copy_out(bytes: &[u8], start: usize, to: &mut [u8])
 // Lends so many bytes from a place on.
 fn piece(bytes: &[u8], start: usize, len: usize) -> &[u8]
     requires { start + len ≤ length bytes.now }
-    ensures { result.now ≡ take len (drop start bytes.now) }
+    ensures value { result.now ≡ take len (drop start bytes.now) }
+    ensures short { length result.now ≤ length bytes.now }
 {
     &bytes[start..start + len]
 }
@@ -146,10 +147,11 @@ impl Disk {
         copy_out(&self.bytes, start, to);
     }
 
-    /// Lends the bytes of `count` blocks from the block `lba` on, without a copy.
+    /// Lends the bytes of `count` blocks from the block `lba` on, without a copy; at most 16 MiB.
     pub fn range(&self, lba: u64, count: u64) -> &[u8]
         requires { IsInside self.now lba count }
-        ensures { result.now ≡ range_bytes self.now lba count }
+        ensures value { result.now ≡ range_bytes self.now lba count }
+        ensures short { length result.now ≤ most_bytes }
     {
         let start = lba as usize * self.size;
         let len = count as usize * self.size;

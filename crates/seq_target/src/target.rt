@@ -1,5 +1,5 @@
-ghost use Rattle.std.specs.Prelude.{◌≡◌, ◌≢◌, [], IfOk, length};
-ghost use Rattle.mem_bdev.specs.Blocks.{IsShape};
+ghost use Rattle.std.specs.Prelude.{◌≡◌, ◌≢◌, ◌≤◌, [], IfOk, length};
+ghost use Rattle.mem_bdev.specs.Blocks.{IsShape, most_bytes};
 ghost use Rattle.sqe_cqe.specs.Sqe.{payload_len};
 ghost use Rattle.seq_target.specs.Model.{Submit, Execute, Control, simple_start};
 ghost use Rattle.seq_target.specs.Stands.{StandsFor, Simulates, IsIdle, IsHolding, FitsAdmit, simple_row, simple_admission, bytes_lent, CanLend};
@@ -131,10 +131,11 @@ impl Target {
         }
     }
 
-    /// Lends what an executed command hands to the host, without a copy: a Read's blocks, else nothing.
+    /// Lends what an executed command hands to the host, without a copy: a Read's blocks, at most 16 MiB, else nothing.
     pub fn lent(&self, executed: &Executed) -> &[u8]
         requires { CanLend executed.now self.now }
-        ensures { result.now ≡ bytes_lent executed.now self.now }
+        ensures value { result.now ≡ bytes_lent executed.now self.now }
+        ensures short { length result.now ≤ most_bytes }
     {
         lend(&executed.job, &self.disk)
     }

@@ -14,6 +14,9 @@ pub piece-requires : goal.piece-requires
 piece-requires c =
     rw c.deref.ensures.value (blocks_in_bytes c.self.inside _ _ _ c.self.view_is c.self.invariant c.requires)
 
-pub returns : goal.returns
-returns c =
-    c.piece.ensures ∙ rw c.deref.ensures.value (range_gives c.self.inside _ _ _ c.self.view_is c.self.invariant c.requires)
+pub returns-clause-value : goal.returns-clause-value
+returns-clause-value c =
+    c.piece.ensures.value ∙ rw c.deref.ensures.value (range_gives c.self.inside _ _ _ c.self.view_is c.self.invariant c.requires)
+
+pub returns-clause-short : goal.returns-clause-short
+returns-clause-short c = omega (arith, rw c.deref.ensures.value at c.piece.ensures.short, c.self.invariant.4)
