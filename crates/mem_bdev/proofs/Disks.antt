@@ -1,11 +1,10 @@
 -- The fields of a disk and the blocks that they stand for.
-use Rattle.std.proofs.Common.{◌≡◌, ◌⊎◌, ℕ, zero, suc, ◌+◌, ◌-◌, ◌*◌, ◌/◌, ◌^◌, ◌≤◌, ◌<◌, List, [], ◌∷◌, ◌++◌, length, take, drop, replicate, refl, sym, ap, subst, ◌∙◌, arith, vec_len}
-use Rattle.std.proofs.Math.Nat.{add-mul, mul-div_cancel, one-le-pow}
-use Rattle.std.proofs.lemmas.List.{length-append}
+use Rattle.std.proofs.Common.{◌≡◌, ℕ, ◌+◌, ◌-◌, ◌*◌, ◌/◌, ◌^◌, ◌≤◌, ◌<◌, List, ◌++◌, length, take, drop, replicate, refl, sym, ap, subst, ◌∙◌, arith}
+use Rattle.std.proofs.Math.Nat.{mul-div_cancel, one-le-pow}
 use Rattle.std.specs.List.{flat_map}
 use Rattle.std.specs.Vec.{with_items}
-use Rattle.std.proofs.lemmas.List.{with_items_is, length-take, length-drop, length-replicate}
-use Rattle.mem_bdev.specs.Blocks.{Blocks, cut, IsWhole, IsInside, range_bytes, with_blocks, written, zeroed, blank}
+use Rattle.std.proofs.lemmas.List.{with_items_is, length-replicate}
+use Rattle.mem_bdev.specs.Blocks.{Blocks, cut, IsWhole, IsInside, range_bytes, written, zeroed, blank}
 use Rattle.mem_bdev.specs.declared.disk.Disk.TheInside.{Inside}
 use Rattle.mem_bdev.specs.contracts.disk.Disk.{the_view, the_invariant}
 use Rattle.mem_bdev.proofs.Cuts.{length-cut, fits, read-cut, write-cut, cut-replicate}
@@ -104,3 +103,16 @@ zero_after i v lba count new view inv h is len =
     let is' : new ≡ take (lba * i.size) i.bytes.items ++ (ys ++ drop (length ys) (drop (lba * i.size) i.bytes.items)) = is ∙ rw zeros refl in
     view_after i v lba ys new view inv whole is' len
     ∙ subst (λ (s : ℕ). written v lba (replicate (count * s) 0) ≡ zeroed v lba count) (sym size) (sym (zeroed_is v lba count))
+
+-- so many blocks in bytes
+pub range_gives : (i : Inside) (v : Blocks) (lba count : ℕ) → the_view i ≡ v → the_invariant i → IsInside v lba count → take (count * i.size) (drop (lba * i.size) i.bytes.items) ≡ range_bytes v lba count
+range_gives i v lba count view inv h =
+    let some : 0 < 2 ^ v.shift = omega (arith, one-le-pow v.shift 2 (omega arith)) in
+    let n : count * 2 ^ v.shift / 2 ^ v.shift ≡ count = mul-div_cancel count some in
+    let size = size_is i v view inv in
+    let r = read_gives i v lba (count * 2 ^ v.shift) view inv (whole_zeros v lba count h) in
+    subst (λ (s : ℕ). take (count * s) (drop (lba * i.size) i.bytes.items) ≡ range_bytes v lba count) (sym size) (r ∙ ap (range_bytes v lba) n)
+
+-- all blocks together
+pub at_most : (i : Inside) (v : Blocks) → the_view i ≡ v → the_invariant i → i.blocks * 2 ^ v.shift ≤ 16777216
+at_most i v view inv = subst (λ (s : ℕ). i.blocks * 2 ^ s ≤ 16777216) (ap (λ (b : Blocks). b.shift) view) (subst (λ (n : ℕ). n ≤ 16777216) inv.1 inv.4)

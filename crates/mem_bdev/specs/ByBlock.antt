@@ -1,5 +1,5 @@
 -- What a write and a zeroing leave, block by block.
-use Rattle.std.specs.Prelude.{◌≡◌, ◌⊎◌, ◌≤◌, ◌<◌, ℕ, ◌+◌, ◌-◌, ◌*◌, ◌/◌, ◌^◌, List, [], length, take, drop, replicate, slice_index_or}
+use Rattle.std.specs.Prelude.{◌≡◌, ◌≤◌, ◌<◌, ℕ, ◌+◌, ◌*◌, ◌/◌, ◌^◌, List, [], length, take, drop, replicate, slice_index_or}
 use Rattle.mem_bdev.specs.Blocks.{Blocks}
 
 -- block i of a disk

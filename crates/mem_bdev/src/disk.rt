@@ -1,5 +1,5 @@
 ghost use Rattle.std.specs.Prelude.{◌≡◌, ◌≤◌, ◌<◌, ◌+◌, ◌*◌, ◌/◌, ◌^◌, ◌↔◌, IfOk, IsTrue, ◌++◌, length, take, drop, replicate, ◌⊎◌};
-ghost use Rattle.mem_bdev.specs.Blocks.{Blocks, blank, range_bytes, written, zeroed, IsShape, IsWhole, IsInside};
+ghost use Rattle.mem_bdev.specs.Blocks.{Blocks, blank, range_bytes, written, zeroed, IsShape, IsWhole, IsInside, most_bytes};
 
 use crate::name::Name;
 use std::alloc::{AllocError, Global};
@@ -12,6 +12,15 @@ fn copy_out(bytes: &[u8], start: usize, to: &mut [u8])
 {
     let end = start + to.len();
     to.copy_from_slice(&bytes[start..end]);
+}
+
+// Lends so many bytes from a place on.
+fn piece(bytes: &[u8], start: usize, len: usize) -> &[u8]
+    requires { start + len ≤ length bytes.now }
+    ensures value { result.now ≡ take len (drop start bytes.now) }
+    ensures short { length result.now ≤ length bytes.now }
+{
+    &bytes[start..start + len]
 }
 
 // Copies to a place in `bytes`.
@@ -86,7 +95,7 @@ impl Model for Disk {
 
     ghost view = { λ d. record { shift = d.shift; blocks = cut d.blocks (2 ^ d.shift) d.bytes.items } };
 
-    ghost invariant = { λ d. (d.size ≡ 2 ^ d.shift) × (length d.bytes.items ≡ d.blocks * 2 ^ d.shift) × (d.size ≤ 4096) };
+    ghost invariant = { λ d. (d.size ≡ 2 ^ d.shift) × (length d.bytes.items ≡ d.blocks * 2 ^ d.shift) × (d.size ≤ 4096) × (d.shift ≤ 12) × (length d.bytes.items ≤ 16777216) };
 }
 
 impl Disk {
@@ -107,7 +116,8 @@ impl Disk {
 
     /// The base 2 logarithm of the block size: 9 or 12.
     pub fn shift(&self) -> u8
-        ensures { result ≡ self.now.shift }
+        ensures value { result ≡ self.now.shift }
+        ensures small { result ≤ 12 }
     {
         self.shift
     }
@@ -120,9 +130,10 @@ impl Disk {
         self.size
     }
 
-    /// The number of blocks.
+    /// The number of blocks, which have at most 16 MiB together.
     pub fn blocks(&self) -> u64
-        ensures { result ≡ length self.now.blocks }
+        ensures value { result ≡ length self.now.blocks }
+        ensures small { result * 2 ^ self.now.shift ≤ most_bytes }
     {
         self.blocks
     }
@@ -136,6 +147,17 @@ impl Disk {
         copy_out(&self.bytes, start, to);
     }
 
+    /// Lends the bytes of `count` blocks from the block `lba` on, without a copy; at most 16 MiB.
+    pub fn range(&self, lba: u64, count: u64) -> &[u8]
+        requires { IsInside self.now lba count }
+        ensures value { result.now ≡ range_bytes self.now lba count }
+        ensures short { length result.now ≤ most_bytes }
+    {
+        let start = lba as usize * self.size;
+        let len = count as usize * self.size;
+        piece(&self.bytes, start, len)
+    }
+
     /// Writes whole blocks from the block `lba` on, and leaves the others. Takes no memory.
     pub fn write(&mut self, lba: u64, from: &[u8])
         requires { IsWhole self.old lba (length from.now) }
@@ -144,6 +166,7 @@ impl Disk {
         let start = lba as usize * self.size;
         copy_in(&mut self.bytes, start, from);
     }
+
     /// Zeroes `count` blocks from the block `lba` on, and leaves the others. Takes no memory.
     pub fn zero(&mut self, lba: u64, count: u64)
         requires { IsInside self.old lba count }

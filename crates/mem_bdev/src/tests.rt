@@ -16,6 +16,7 @@ fn holds_what_was_written_and_zeroed(rt: HostRuntime) -> Result<(), Fail> {
     assert_eq!(rt; to[1024], 9);
     assert_eq!(rt; &to[1025..1536], [7; 511].as_slice());
     assert_eq!(rt; &to[1536..], [0; 512].as_slice());
+    assert_eq!(rt; disk.range(1, 2), &to[512..1536]);
     Ok(())
 }
 

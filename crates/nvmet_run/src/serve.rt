@@ -35,13 +35,12 @@ fn control_one(
     Ok(())
 }
 
-// The execute of the command that is held.
+// The execute of the command that is held. What a Read reads goes from the disk straight into the record.
 fn execute_one(
     target: &mut Target,
     queue: u32,
     number: u32,
     payload: &[u8],
-    buffer: &mut Buffer,
     output: &mut Output,
 ) -> Result<(), AllocError>
     requires queue { queue ≡ 1 }
@@ -52,14 +51,14 @@ fn execute_one(
     ensures places { OnOk result (output.new.places ≡ output.old.places + 1) }
     ensures makes { OnOk result (Makes (Single (Execute queue number payload.now)) target.old output.old target.new output.new) }
 {
-    let reply = target.execute(queue, number, payload, buffer);
+    let executed = target.execute_in_place(queue, number, payload);
     output.add(
         output.places,
         Kind::Execute,
         number,
-        &reply,
+        &executed.reply,
         payload.len(),
-        buffer.bytes(),
+        target.lent(&executed),
     )?;
     Ok(())
 }
@@ -124,7 +123,7 @@ fn command_one(
 {
     let reply = submit_one(target, queue, number, entry, buffer, output)?;
     if held(&reply) {
-        execute_one(target, queue, number, payload, buffer, output)?;
+        execute_one(target, queue, number, payload, output)?;
     }
     Ok(())
 }

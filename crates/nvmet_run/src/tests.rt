@@ -147,45 +147,44 @@ fn a_disk_of_large_blocks(rt: HostRuntime) -> Result<(), Fail> {
     Ok(())
 }
 
-// The status of one command without data, and how many records it made: two where it was held.
+// Opcode, flags, NSID, SLBA, NLB, SGL length, and the status of the submit, 0 where the command is held.
+const CHECKS: &[(u8, u8, u32, u64, u16, u32, u16)] = &[
+    (0x02, 0x40, 1, 15, 0, 512, 0),
+    (0x02, 0x40, 1, 15, 1, 1024, 0x8100),
+    (0x02, 0x40, 1, u64::MAX, 0, 512, 0x8100),
+    (0x02, 0x40, 1, 0, 0, 511, 0x801e),
+    (0x02, 0x00, 1, 0, 0, 512, 0x8004),
+    (0x02, 0x00, 2, 0, 0, 512, 0x8004),
+    (0x02, 0x40, 2, 0, 0, 512, 0x8016),
+    (0x7e, 0x40, 2, 0, 0, 0, 0x8002),
+    (0x00, 0x40, 1, 0, 0, 0, 0),
+    (0x08, 0x40, 1, 0, 15, 0, 0),
+    (0x08, 0x40, 1, 1, 15, 0, 0x8100),
+];
+
 #[test]
-fn each_check_at_its_boundary(rt: HostRuntime) -> Result<(), Fail> {
-    let plan = b"nvmet-plan 1\nsimple\ndisk /dev/ram0 9 1024\nqueue 1 q1 r1\n";
-    for (opcode, nsid, slba, nlb, len, held, status) in [
-        (0x02, 1, 1023, 0, 512, true, 0),
-        (0x02, 1, 1022, 1, 1024, true, 0),
-        (0x02, 1, 1023, 1, 1024, false, 0x8100),
-        (0x02, 1, 1024, 0, 512, false, 0x8100),
-        (0x02, 1, u64::MAX, 0, 512, false, 0x8100),
-        (0x02, 1, 0, 0, 511, false, 0x801e),
-        (0x02, 1, 0, 0, 513, false, 0x801e),
-        (0x02, 1, 0, 255, 131_072, true, 0),
-        (0x02, 1, 0, 256, 131_584, false, 0x8004),
-        (0x02, 2, 0, 0, 512, false, 0x8016),
-        (0x02, 0, 0, 0, 512, false, 0x8016),
-        (0x02, u32::MAX, 5000, 0, 1, false, 0x8016),
-        (0x00, 1, 0, 0, 0, false, 0x8002),
-        (0x7e, 2, 0, 0, 0, false, 0x8002),
-    ] {
-        let q1 = write_sqe(&entry(opcode, 5, nsid, slba, nlb, len));
-        let run = run(&rt, rt.alloc(), plan, &q1)?;
+fn each_check_of_a_submit(rt: HostRuntime) -> Result<(), Fail> {
+    for &(opcode, flags, nsid, slba, nlb, len, status) in CHECKS {
+        let mut e = entry(opcode, 5, nsid, slba, nlb, len);
+        e.flags = flags;
+        let run = run(&rt, rt.alloc(), PLAN, &write_sqe(&e))?;
         assert_eq!(rt; run.status, Status::Fine);
-        let want = if held {
-            record(0, 1, 0, 0, 0, 0)
-        } else {
-            record(0, 1, 1, 0, 5, status)
-        };
         let records = run.records();
         assert!(rt; records.len() >= 32);
+        let held = status == 0;
+        let answer = if held { 0 } else { 1 };
+        let cid = if held { 0 } else { 5 };
         assert_eq!(rt;
             &records[..32],
-            want.as_slice(),
-            "opcode {opcode}, SLBA {slba}, NLB {nlb}, length {len}"
+            record(0, 1, answer, 0, cid, status).as_slice(),
+            "{opcode} {flags} {nsid} {slba} {nlb} {len}"
         );
+        let data = if held && opcode == 0x02 { 512 } else { 0 };
+        let want = if held { 64 + data } else { 32 };
         assert_eq!(rt;
-            records.len() > 32,
-            held,
-            "opcode {opcode}, SLBA {slba}, NLB {nlb}, length {len}"
+            records.len(),
+            want,
+            "{opcode} {flags} {nsid} {slba} {nlb} {len}"
         );
     }
     Ok(())

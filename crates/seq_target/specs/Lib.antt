@@ -1,6 +1,6 @@
 pub mod Configuration
 pub mod Model
-pub mod Jobs
+pub mod Views
 pub mod Admission
 pub mod Steps
 pub mod Legal

@@ -3,7 +3,7 @@ use Rattle.std.specs.Prelude.{ℕ, zero, suc, ◌==◌, ◌&&◌, Bool, List, []
 use Rattle.mem_bdev.specs.Blocks.{Blocks, blank}
 use Rattle.mem_bdev.specs.declared.disk.DiskLine.{DiskLine}
 use Rattle.sqe_cqe.specs.declared.sqe.Sqe.{Sqe}
-use Rattle.seq_target.specs.declared.calls.Job.{Job}
+use Rattle.io_commands.specs.declared.jobs.Job.{Job}
 use Rattle.seq_target.specs.declared.calls.Reply.{Reply}
 use Rattle.seq_target.specs.Configuration.{Settings, simple_settings, simple_nqn}
 

@@ -1,17 +1,25 @@
 -- What the program's target of a simple plan stands for.
-use Rattle.std.specs.Prelude.{◌==◌, if◌then◌else◌, Result, Ok, Err, ◌≡◌, ◌≤◌, ℕ, ◌*◌, ◌^◌, IsTrue, List, [], ◌∷◌, Option, Some, None}
-use Rattle.mem_bdev.specs.Blocks.{Blocks, IsWhole, IsInside}
-use Rattle.sqe_cqe.specs.declared.codes.TheConstants.{INVALID_OPCODE}
+use Rattle.std.specs.Prelude.{◌≡◌, ℕ, true, IsTrue, List, [], ◌∷◌, length, replicate, Option, Some, None}
+use Rattle.mem_bdev.specs.Blocks.{Blocks}
 use Rattle.sqe_cqe.specs.declared.sqe.Sqe.{Sqe}
+use Rattle.sqe_cqe.specs.declared.one.OneRow.{OneRow}
+use Rattle.sqe_cqe.specs.declared.controllers.Bound.{Bound}
+use Rattle.sqe_cqe.specs.declared.rows.Seen.TheVariants.{On}
+use Rattle.sqe_cqe.specs.declared.rows.Ana.TheVariants.{Optimized}
 use Rattle.sqe_cqe.specs.Sqe.{payload_len}
-use Rattle.seq_target.specs.declared.calls.Job.{Job}
-use Rattle.seq_target.specs.declared.calls.Job.TheVariants.{Read, Write}
+use Rattle.sqe_cqe.specs.Answers.{view_of}
+use Rattle.sqe_cqe.specs.One.{one_answers}
+use Rattle.io_commands.specs.declared.jobs.Job.{Job}
+use Rattle.io_commands.specs.declared.jobs.Admit.{Admit}
+use Rattle.io_commands.specs.declared.jobs.Admit.TheVariants.{Refused, Run}
+use Rattle.io_commands.specs.Jobs.{disk_of, bytes_read, InRange, FitsJob}
+use Rattle.io_commands.specs.Admission.{io_admission}
 use Rattle.seq_target.specs.declared.calls.Reply.{Reply}
 use Rattle.seq_target.specs.declared.target.Command.{Command}
+use Rattle.seq_target.specs.declared.target.Executed.{Executed}
 use Rattle.seq_target.specs.declared.target.Target as code
 use Rattle.seq_target.specs.Configuration.{simple_settings, simple_nqn}
 use Rattle.seq_target.specs.Model.{Call, Binding, Disk, HeldCommand, Target}
-use Rattle.seq_target.specs.Admission.{Admission, Refused, Admits, admission_on, is_io, Enabled, NotConfigured, most_transfer}
 use Rattle.seq_target.specs.Steps.{is_lawful, reply_of, bytes_of, target_after}
 
 abbrev pub held_list : Option Command → List HeldCommand
@@ -44,28 +52,52 @@ pub record Does (t : Target) (call : Call) (reply : Reply) (bytes : List ℕ) (c
 abbrev pub Simulates : code.Target → Call → Reply → List ℕ → code.Target → Type 0
 Simulates old call reply bytes new = (t : Target) → StandsFor old t → Does t call reply bytes new
 
--- the job is in range of the disk, its data fit a transfer, and a Write's data have this length
-abbrev pub FitsJob : Job → Blocks → ℕ → Type 0
-FitsJob (Read disk lba count) d len = (disk ≡ 0) × IsInside d lba count × (count * 2 ^ d.shift ≤ most_transfer)
-FitsJob (Write disk lba count) d len = (disk ≡ 0) × IsWhole d lba len
-
 -- the target holds no command
 abbrev pub IsIdle : code.Target → Type 0
 IsIdle c = c.held ≡ None
 
+-- the job is on the one disk, and may be done with so many bytes of data
+abbrev pub FitsDisk : Job → Blocks → ℕ → Type 0
+FitsDisk job d len = (disk_of job ≡ 0) × FitsJob job d.shift (length d.blocks) len
+
 abbrev pub Keeps : Option Command → Blocks → ℕ → ℕ → ℕ → Type 0
 Keeps None d queue number len = ⊥
-Keeps (Some h) d queue number len = (h.queue ≡ queue) × (h.number ≡ number) × FitsJob h.job d len
+Keeps (Some h) d queue number len = (h.queue ≡ queue) × (h.number ≡ number) × FitsDisk h.job d len
 
 -- the target holds this command, whose data have this length
 abbrev pub IsHolding : code.Target → ℕ → ℕ → ℕ → Type 0
 IsHolding c queue number len = Keeps c.held c.disk queue number len
 
--- the admission over the one disk
-abbrev pub simple_admission : Sqe → Blocks → Admission
-simple_admission e d = if is_io e then admission_on e (if e.nsid == 1 then Enabled 0 d 0 else NotConfigured) else Refused INVALID_OPCODE
+-- the configuration of a simple plan whose disk this is, with its controller ready and its one group optimized
+abbrev pub simple_row : Blocks → OneRow
+simple_row d = record {
+  ready = true;
+  seen = On (record { disk = 0; shift = d.shift; blocks = length d.blocks; group = 1; uuid = replicate 16 0; nguid = replicate 16 0 });
+  ana = Optimized;
+  bars = 0;
+  serial = 0;
+  ns_stamp = 0;
+  ana_stamp = 0;
+  ana_count = 0;
+}
 
--- what the program decides of a submit on the one disk
-abbrev pub Decides : Blocks → Sqe → Result Job ℕ → Type 0
-Decides d e (Ok job) = (simple_admission e d ≡ Admits job 0) × FitsJob job d (payload_len e)
-Decides d e (Err status) = simple_admission e d ≡ Refused status
+-- its queue: QID 1 of controller 1, at the first positions
+abbrev pub simple_bound : Bound
+simple_bound = record { ctrl = 1; qid = 1; sub = 0; port = 0 }
+
+-- the admission over the one disk
+abbrev pub simple_admission : Sqe → Blocks → Admit
+simple_admission e d = io_admission (view_of (one_answers (simple_row d)) simple_bound) e
+
+-- what is admitted may be done on the disk
+abbrev pub FitsAdmit : Sqe → Blocks → Admit → Type 0
+FitsAdmit e d (Refused status) = Unit {0}
+FitsAdmit e d (Run job) = FitsDisk job d (payload_len e)
+
+-- what an executed command hands to the host: the bytes that its job reads, which stand on the disk still
+abbrev pub bytes_lent : Executed → code.Target → List ℕ
+bytes_lent x c = bytes_read c.disk x.job
+
+-- they can be lent
+abbrev pub CanLend : Executed → code.Target → Type 0
+CanLend x c = InRange x.job (length c.disk.blocks)

@@ -2,11 +2,11 @@
 -- target after it. All are functions of the target and the call alone.
 use Rattle.std.specs.Prelude.{ℕ, zero, suc, not, Bool, true, List, [], ◌∷◌, ◌++◌, filter, Option, Some, None, is_some}
 use Rattle.sqe_cqe.specs.declared.codes.TheConstants.{SUCCESS, INVALID_OPCODE}
-use Rattle.seq_target.specs.declared.calls.Job.{Job}
+use Rattle.io_commands.specs.declared.jobs.Job.{Job}
 use Rattle.seq_target.specs.declared.calls.Reply.{Reply}
 use Rattle.seq_target.specs.declared.calls.Reply.TheVariants as replies
 use Rattle.seq_target.specs.Model.{Call, Submit, Execute, Control, Entry, Disk, HeldCommand, Target, held_at, bound_at, qid_of, is_command}
-use Rattle.seq_target.specs.Jobs.{disk_of, bytes_read, blocks_after}
+use Rattle.io_commands.specs.Jobs.{disk_of, bytes_read, blocks_after}
 use Rattle.seq_target.specs.Admission.{Admission, Refused, Admits, admission}
 
 -- an Execute is lawful where its command is held, and every other call always

@@ -1,15 +1,14 @@
-ghost use Rattle.std.specs.Prelude.{◌≡◌, ◌≢◌, [], IfOk, length};
-ghost use Rattle.mem_bdev.specs.Blocks.{IsShape};
+ghost use Rattle.std.specs.Prelude.{◌≡◌, ◌≢◌, ◌≤◌, [], IfOk, length};
+ghost use Rattle.mem_bdev.specs.Blocks.{IsShape, most_bytes};
 ghost use Rattle.sqe_cqe.specs.Sqe.{payload_len};
 ghost use Rattle.seq_target.specs.Model.{Submit, Execute, Control, simple_start};
-ghost use Rattle.seq_target.specs.Stands.{StandsFor, Simulates, IsIdle, IsHolding, Decides};
+ghost use Rattle.seq_target.specs.Stands.{StandsFor, Simulates, IsIdle, IsHolding, FitsAdmit, simple_row, simple_admission, bytes_lent, CanLend};
+ghost use Rattle.sqe_cqe.specs.Answers.{HasShape};
 
-use crate::calls::{Job, Reply};
-use mem_bdev::{Buffer, Disk, DiskLine, MAX_TRANSFER};
-use sqe_cqe::{
-    Cqe, DATA_SGL_LENGTH_INVALID, INVALID_FIELD, INVALID_NAMESPACE, INVALID_OPCODE,
-    LBA_OUT_OF_RANGE, READ, SUCCESS, Sqe, WRITE,
-};
+use crate::calls::Reply;
+use io_commands::{Admit, Job, admit_io, change, do_io, lend};
+use mem_bdev::{Buffer, Disk, DiskLine};
+use sqe_cqe::{Ana, Bound, Cqe, INVALID_OPCODE, NsRow, OneLook, OneRow, SUCCESS, Seen, Sqe};
 use std::alloc::{AllocError, Global};
 
 /// A command between its submit and its execute.
@@ -20,6 +19,21 @@ pub struct Command {
     cid: u16,
     job: Job,
 }
+
+/// A command that was executed: its completion, and the job that was done.
+#[derive(Clone, Copy, Debug, PartialEq, Eq)]
+pub struct Executed {
+    pub reply: Reply,
+    job: Job,
+}
+
+// The one queue of a simple plan, by numbers and positions.
+const QUEUE: Bound = Bound {
+    ctrl: 1,
+    qid: 1,
+    sub: 0,
+    port: 0,
+};
 
 /// The target of a simple plan, for one caller: one disk, on which namespace 1 is enabled, and one connected I/O queue
 /// with number 1.
@@ -67,8 +81,8 @@ impl Target {
     {
         to.clear();
         match admitted(&self.disk, e) {
-            Err(status) => completed(e.cid, status),
-            Ok(job) => {
+            Admit::Refused(status) => completed(e.cid, status),
+            Admit::Run(job) => {
                 self.held = Some(Command {
                     queue,
                     number,
@@ -87,25 +101,43 @@ impl Target {
         ensures does { Simulates self.old (Execute queue number payload.now) result to.new self.new }
         ensures idle { IsIdle self.new }
     {
-        to.clear();
         match self.held.take() {
             None => unreachable!(),
             Some(command) => {
-                match command.job {
-                    Job::Read {
-                        disk: _,
-                        lba,
-                        count,
-                    } => to.read_from(&self.disk, lba, count),
-                    Job::Write {
-                        disk: _,
-                        lba,
-                        count: _,
-                    } => self.disk.write(lba, payload),
-                }
+                do_io(&command.job, &mut self.disk, payload, to);
                 completed(command.cid, SUCCESS)
             }
         }
+    }
+
+    /// Executes the command that is held, as `execute` does, and leaves what a Read reads on the disk: `lent` lends it
+    /// until the next call. Takes no memory.
+    pub fn execute_in_place(&mut self, queue: u32, number: u32, payload: &[u8]) -> Executed
+        requires queue { queue ≡ 1 }
+        requires held { IsHolding self.old queue number (length payload.now) }
+        ensures does { Simulates self.old (Execute queue number payload.now) result.reply (bytes_lent result self.new) self.new }
+        ensures lends { CanLend result self.new }
+        ensures idle { IsIdle self.new }
+    {
+        match self.held.take() {
+            None => unreachable!(),
+            Some(command) => {
+                change(&command.job, &mut self.disk, payload);
+                Executed {
+                    reply: completed(command.cid, SUCCESS),
+                    job: command.job,
+                }
+            }
+        }
+    }
+
+    /// Lends what an executed command hands to the host, without a copy: a Read's blocks, at most 16 MiB, else nothing.
+    pub fn lent(&self, executed: &Executed) -> &[u8]
+        requires { CanLend executed.now self.now }
+        ensures value { result.now ≡ bytes_lent executed.now self.now }
+        ensures short { length result.now ≤ most_bytes }
+    {
+        lend(&executed.job, &self.disk)
     }
 
     /// A fabrics command on the connected I/O queue, which is refused. Takes no memory.
@@ -119,40 +151,36 @@ impl Target {
     }
 }
 
-// The job of a command on the disk, or the status of the first check that fails.
-fn admitted(disk: &Disk, e: &Sqe) -> Result<Job, u16>
-    ensures { Decides disk.now e.now result }
+// The configuration of a simple plan with this disk.
+fn row_of(disk: &Disk) -> OneRow
+    ensures value { result ≡ simple_row disk.now }
+    ensures shape { HasShape result.seen }
 {
-    if e.opcode != WRITE && e.opcode != READ {
-        return Err(INVALID_OPCODE);
-    }
-    if e.nsid != 1 {
-        return Err(INVALID_NAMESPACE);
-    }
-    let lba = u64::from(e.cdw10) + u64::from(e.cdw11) * 0x1_0000_0000;
-    let count = e.cdw12 % 0x1_0000 + 1;
-    let blocks = disk.blocks();
-    if lba > blocks || u64::from(count) > blocks - lba {
-        return Err(LBA_OUT_OF_RANGE);
-    }
-    let size = disk.block_size();
-    if e.sgl_len as usize != count as usize * size {
-        return Err(DATA_SGL_LENGTH_INVALID);
-    }
-    if e.sgl_len as usize > MAX_TRANSFER {
-        return Err(INVALID_FIELD);
-    }
-    if e.opcode == WRITE {
-        Ok(Job::Write {
+    OneRow {
+        ready: true,
+        seen: Seen::On(NsRow {
             disk: 0,
-            lba,
-            count,
-        })
-    } else {
-        Ok(Job::Read {
-            disk: 0,
-            lba,
-            count,
-        })
+            shift: disk.shift(),
+            blocks: disk.blocks(),
+            group: 1,
+            uuid: [0; 16],
+            nguid: [0; 16],
+        }),
+        ana: Ana::Optimized,
+        bars: 0,
+        serial: 0,
+        ns_stamp: 0,
+        ana_stamp: 0,
+        ana_count: 0,
     }
+}
+
+// What a command on the one queue gets, by a look at the configuration of a simple plan.
+fn admitted(disk: &Disk, e: &Sqe) -> Admit
+    ensures value { result ≡ simple_admission e.now disk.now }
+    ensures fits { FitsAdmit e.now disk.now result }
+{
+    let row = row_of(disk);
+    let mut look = OneLook::new(&row);
+    admit_io(&QUEUE, e, &mut look)
 }

@@ -3,11 +3,20 @@
 /// Opcode of a fabrics command (NVMe over Fabrics 1.1, 3).
 pub const FABRICS: u8 = 0x7f;
 
+/// Opcode of Flush (NVM Command Set 1.0, 3.2.3).
+pub const FLUSH: u8 = 0x00;
+
 /// Opcode of Write (NVM Command Set 1.0, 3.2.6).
 pub const WRITE: u8 = 0x01;
 
 /// Opcode of Read (NVM Command Set 1.0, 3.2.4).
 pub const READ: u8 = 0x02;
+
+/// Opcode of Write Zeroes (NVM Command Set 1.0, 3.2.7).
+pub const WRITE_ZEROES: u8 = 0x08;
+
+/// Flags of a command whose data are told by an SGL, and that isn't fused: PSDT 01b, FUSE 00b.
+pub const SGL: u8 = 0x40;
 
 /// Status field of a command that was done.
 pub const SUCCESS: u16 = 0;
@@ -32,3 +41,12 @@ pub const LBA_OUT_OF_RANGE: u16 = 0x8100;
 
 /// Status field Internal Path Error.
 pub const INTERNAL_PATH_ERROR: u16 = 0x0600;
+
+/// Status field Asymmetric Access Persistent Loss.
+pub const ANA_PERSISTENT_LOSS: u16 = 0x0602;
+
+/// Status field Asymmetric Access Inaccessible.
+pub const ANA_INACCESSIBLE: u16 = 0x0604;
+
+/// Status field Asymmetric Access Transition.
+pub const ANA_TRANSITION: u16 = 0x0606;

@@ -1,4 +1,5 @@
 use super::*;
+use std::test::Fail;
 
 #[test]
 fn a_write_entry_and_its_bytes(rt: HostRuntime) {
@@ -49,4 +50,76 @@ fn a_completion_and_its_bytes(rt: HostRuntime) {
     assert_eq!(rt; c.cid, 3);
     assert_eq!(rt; c.status, 0x8304);
     assert_eq!(rt; write_cqe(&c), bytes);
+}
+
+const ROW: NsRow = NsRow {
+    disk: 3,
+    shift: 12,
+    blocks: 4096,
+    group: 1,
+    uuid: [7; 16],
+    nguid: [0; 16],
+};
+
+// What each call of a look answers: the positions are out of use, the NSID and the group are as given.
+fn answers<L: Look>(look: &mut L, at: u32) -> (bool, Seen, Ana, bool, u16, u64) {
+    let counts = u64::from(look.ns_stamp(9, at)) * 1000 + u64::from(look.ana_stamp(9, 9)) * 100;
+    let serial = u64::from(look.serial()) * 10 + look.ana_count();
+    let more = u64::from(look.marks(9, at)) + look.group_count(9, 9, at);
+    (
+        look.ready(9),
+        look.ns(9, at),
+        look.ana(9, at),
+        look.group_made(9, at),
+        look.bars(9, 9, at, WRITE),
+        counts.saturating_add(serial).saturating_add(more),
+    )
+}
+
+#[test]
+fn a_look_at_one_namespace(rt: HostRuntime) {
+    let row = OneRow {
+        ready: true,
+        seen: Seen::On(ROW),
+        ana: Ana::Changing,
+        bars: 0x40,
+        serial: 3,
+        ns_stamp: 1,
+        ana_stamp: 2,
+        ana_count: 0,
+    };
+    let mut look = OneLook::new(&row);
+    let at_one = answers(&mut look, 1);
+    assert_eq!(rt;
+        at_one,
+        (true, Seen::On(ROW), Ana::Changing, true, 0x40, 1230)
+    );
+    let at_two = answers(&mut look, 2);
+    assert_eq!(rt;
+        at_two,
+        (
+            true,
+            Seen::NotConfigured,
+            Ana::Inaccessible,
+            false,
+            0x40,
+            230
+        )
+    );
+    let offers = look.offers();
+    assert_eq!(rt;
+        (offers.nsids, offers.oncs, offers.nwpc, offers.rescap),
+        (2048, 8, 0, 0)
+    );
+}
+
+#[test]
+fn the_controller_of_a_simple_plan_is_ready(rt: HostRuntime) -> Result<(), Fail> {
+    let none = Controllers::new(rt.alloc())?;
+    let one = Controllers::simple(rt.alloc())?;
+    for (number, want) in [(0, false), (1, true), (2, false), (65_535, false)] {
+        assert!(rt; !ready(&none, number), "{number} of none");
+        assert_eq!(rt; ready(&one, number), want, "{number} of one");
+    }
+    Ok(())
 }
