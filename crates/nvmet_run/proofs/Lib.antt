@@ -3,3 +3,6 @@ pub mod More
 pub mod Making
 pub mod Whole
 pub mod Puts
+pub mod LineCounts
+pub mod Runnable
+pub mod Refusing

@@ -26,18 +26,18 @@ pub record ReadsSo {X : Type 0} (told : Told) (name : List ℕ) (read : List ℕ
 
 -- Why reading this file ended: its first bad place or passed limit, exactly; a read that failed; or want of memory.
 abbrev pub FileRefused : {X : Type 0} → FileNo → List ℕ → (List ℕ → Result X Fault) → FilesView → FilesView → Fault → Type 0
-FileRefused file name read before after (fault.Malformed no place) = ReadsSo before.told name read (Err (fault.Malformed no place))
-FileRefused file name read before after (fault.Limit no what count) = ReadsSo before.told name read (Err (fault.Limit no what count))
-FileRefused file name read before after (fault.ReadFault no) = (no ≡ file) × FailedCall false name before after
-FileRefused file name read before after (fault.WriteFault no) = ⊥
+FileRefused file name read before after (fault.Malformed n place) = ReadsSo before.told name read (Err (fault.Malformed n place))
+FileRefused file name read before after (fault.Limit n what count) = ReadsSo before.told name read (Err (fault.Limit n what count))
+FileRefused file name read before after (fault.ReadFault n) = (n ≡ file) × FailedCall false name before after
+FileRefused file name read before after (fault.WriteFault n) = ⊥
 FileRefused file name read before after fault.Memory = Unit {0}
 
 -- what the bytes of a file give, unless memory ran out
 abbrev pub Refuses : {X : Type 0} → Fault → Result X Fault → Type 0
-Refuses (fault.Malformed no place) read = read ≡ Err (fault.Malformed no place)
-Refuses (fault.Limit no what count) read = read ≡ Err (fault.Limit no what count)
-Refuses (fault.ReadFault no) read = ⊥
-Refuses (fault.WriteFault no) read = ⊥
+Refuses (fault.Malformed n place) read = read ≡ Err (fault.Malformed n place)
+Refuses (fault.Limit n what count) read = read ≡ Err (fault.Limit n what count)
+Refuses (fault.ReadFault n) read = ⊥
+Refuses (fault.WriteFault n) read = ⊥
 Refuses fault.Memory read = Unit {0}
 
 -- what a call answered, seen by `view`, is what the bytes give, unless memory ran out
@@ -47,11 +47,11 @@ Gives view (Err f) read = Refuses f read
 
 -- Why this file was not written: the write failed, or there was no memory for it, and nothing was touched.
 abbrev pub WriteRefused : List ℕ → FilesView → FilesView → Fault → Type 0
-WriteRefused name before after (fault.WriteFault no) = (no ≡ RESPONSES) × FailedCall true name before after
+WriteRefused name before after (fault.WriteFault n) = (n ≡ RESPONSES) × FailedCall true name before after
 WriteRefused name before after fault.Memory = Kept before.told after.told
-WriteRefused name before after (fault.Malformed no place) = ⊥
-WriteRefused name before after (fault.Limit no what count) = ⊥
-WriteRefused name before after (fault.ReadFault no) = ⊥
+WriteRefused name before after (fault.Malformed n place) = ⊥
+WriteRefused name before after (fault.Limit n what count) = ⊥
+WriteRefused name before after (fault.ReadFault n) = ⊥
 
 -- ---- the files of a run
 
@@ -63,8 +63,8 @@ pub record Planned (told : Told) (name : List ℕ) (queue : QueueLine) : Type 0 
 
 -- the name of a file of a run, by its number
 abbrev pub name_by : List QueueLine → List ℕ → FileNo → List ℕ
-name_by [] name no = name
-name_by (q ∷ queues) name no = if no.0 == CAPSULES.0 then q.capsules else (if no.0 == RESPONSES.0 then q.responses else name)
+name_by [] name n = name
+name_by (q ∷ queues) name n = if n.0 == CAPSULES.0 then q.capsules else (if n.0 == RESPONSES.0 then q.responses else name)
 
 -- the capsules of a plan that was read, in the file of this name
 pub record QueueRefused (name file : List ℕ) (before after : FilesView) (f : Fault) : Type 0 where

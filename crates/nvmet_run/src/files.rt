@@ -1,5 +1,6 @@
 // Reading and writing the files of a run.
-ghost use Rattle.std.specs.Prelude.{◌≡◌, ◌≢◌, ◌≤◌, ◌+◌, ℕ, List, All, length, IsUtf8, OnOk, IfOk, IfErr};
+ghost use Rattle.std.specs.Prelude.{◌≡◌, ◌≢◌, ◌≤◌, ◌-◌, ◌==◌, ℕ, List, All, length, count_by, false, not, slice_get, IsUtf8, OnOk, IfOk, IfErr};
+ghost use Rattle.std.specs.Option.{option_map_or};
 ghost use Rattle.plan_files.specs.Capsules.{AreCapsules, IsWholeIn, capsules_in};
 ghost use Rattle.plan_files.specs.Lines.{lines_of};
 ghost use Rattle.plan_files.specs.Plans.{IsPlan};
@@ -84,16 +85,31 @@ fn capsules_fault(error: CapsuleError) -> Fault
     }
 }
 
+// How many line ends a text has.
+fn line_ends(bytes: &[u8]) -> usize
+    ensures { result ≡ count_by (λ b. b == 10) bytes.now }
+{
+    bytes.iter().filter(|b| **b == b'\n').count()
+}
+
+// Whether the last line of a text has no end.
+fn is_open(bytes: &[u8]) -> bool
+    ensures { result ≡ option_map_or (λ b. not (b == 10)) (slice_get bytes.now (length bytes.now - 1)) false }
+{
+    match bytes.last() {
+        Some(b) => *b != b'\n',
+        None => false,
+    }
+}
+
 // How many lines a text has: each ends with byte 0Ah, and the last may lack it.
 fn line_count(bytes: &[u8]) -> u32
     requires { length bytes.now ≤ 65536 }
-    ensures { result ≡ length (lines_of bytes.now) }
+    ensures value { result ≡ length (lines_of bytes.now) }
+    ensures few { result ≤ 65537 }
 {
-    let ended = bytes.iter().filter(|b| **b == b'\n').count() as u32;
-    match bytes.last() {
-        Some(b'\n') | None => ended,
-        Some(_) => ended + 1,
-    }
+    let ended = line_ends(bytes) as u32;
+    if is_open(bytes) { ended + 1 } else { ended }
 }
 
 // The simple plan in these bytes. Another plan is refused on the line after its last, since no other is run yet.
