@@ -6,3 +6,5 @@ pub mod Puts
 pub mod LineCounts
 pub mod Runnable
 pub mod Refusing
+pub mod Serving
+pub mod Settling
