@@ -1,5 +1,5 @@
 -- The run of a simple plan, put together.
-use Rattle.std.proofs.Common.{◌≡◌, ℕ, List, [], ◌∷◌, ◌++◌, length, Option, Some, None, refl, sym, ap, subst, ◌∙◌, arith}
+use Rattle.std.proofs.Common.{◌≡◌, ℕ, List, [], ◌∷◌, ◌++◌, length, Option, Some, None, Ok, refl, sym, ap, subst, ◌∙◌, arith}
 use Rattle.std.proofs.lemmas.List.{append-nil}
 use Rattle.std.proofs.lemmas.List.Sorted.{IsPermutation-refl}
 use Rattle.mem_bdev.specs.declared.disk.DiskLine.{DiskLine}
@@ -15,7 +15,10 @@ use Rattle.nvmet_run.specs.Served.{ServesFile, IsServed}
 use Rattle.nvmet_run.specs.Printing.{responses, summary, summary_of, all_placed, submits_in, executes_in, refusals_in, bytes_taken, bytes_given}
 use Rattle.nvmet_run.specs.Prints.{Prints}
 use Rattle.nvmet_run.specs.Goes.{Makes}
-use Rattle.nvmet_run.specs.Headline.{Told, HoldsOf, Took, ServedPlan, ReadsPlan, ReadsCapsules, IsSimpleOf, Ran, alone}
+use Rattle.nvmet_run.specs.Headline.{Told, HoldsOf, KeptBut, Took, ServedPlan, ReadsPlan, ReadsCapsules, IsSimpleOf, Ran, alone}
+use Rattle.nvmet_run.specs.Reading.{capsules_of_file}
+use Rattle.nvmet_run.specs.Outsides.{Outside, FailedPut}
+use Rattle.nvmet_run.specs.Refusals.{Unsaid}
 use Rattle.nvmet_run.proofs.Placing.{rising, length-placed_from}
 
 all-placed : (plan : Plan) (d : DiskLine) (file : List Capsule) (h : List Entry) → all_placed (alone plan d file h) ≡ placed_from 0 h
@@ -30,14 +33,14 @@ summary-is plan d file o h p =
     ap parts (all-placed plan d file h) ∙ rw (n, p.submitted, p.executed, p.refused, p.taken, p.given) refl
 
 pub plan_served : (told : Told) (plan : Plan) (d : DiskLine) (q : QueueLine) (bytes text : List ℕ) (file : List Capsule) (c0 c1 : program.Target) (o0 o1 : Output)
-    → HoldsOf (told q.capsules) bytes → AreCapsules bytes file → StandsFor c0 (simple_start d) → Prints o0 [] → Makes (ServesFile 1 0 file) c0 o0 c1 o1
+    → HoldsOf (told q.capsules) bytes → AreCapsules bytes file → capsules_of_file bytes ≡ Ok file → StandsFor c0 (simple_start d) → Prints o0 [] → Makes (ServesFile 1 0 file) c0 o0 c1 o1
     → text ≡ summary_of o1.places o1.submitted o1.executed o1.refused o1.taken o1.given
     → ServedPlan told plan d q o1.records.items text
-plan_served told plan d q bytes text file c0 c1 o0 o1 held read st prints makes is =
+plan_served told plan d q bytes text file c0 c1 o0 o1 held read exact st prints makes is =
     let g = makes (simple_start d) [] st prints in
     record {
       file = file;
-      read = record { bytes = bytes; held = held; read = read };
+      read = record { bytes = bytes; held = held; read = read; exact = exact };
       history = g.group;
       served = g.served;
       legal = g.legal;
@@ -53,9 +56,9 @@ ordered_alone plan d file h = record {
 
 pub ran : (told_before told_after : Told) (taken_before taken_after : Option (List ℕ)) (name : List ℕ) (plan : Plan) (d : DiskLine) (q : QueueLine) (records text : List ℕ)
     → ReadsPlan told_before name plan → IsSimpleOf plan d q → ServedPlan told_before plan d q records text
-    → HoldsOf (told_after q.responses) records → Took taken_before taken_after text
+    → HoldsOf (told_after q.responses) records → KeptBut told_before told_after (q ∷ []) → Took taken_before taken_after text
     → Ran told_before told_after taken_before taken_after name
-ran told_before told_after taken_before taken_after name plan d q records text reads simple served written put =
+ran told_before told_after taken_before taken_after name plan d q records text reads simple served written kept put =
     record {
       run = alone plan d served.file served.history;
       read = record {
@@ -67,5 +70,27 @@ ran told_before told_after taken_before taken_after name plan d q records text r
       served = record { queues = (served.served, tt); editor = refl };
       legal = served.legal;
       written = rw simple.queues (subst (λ (x : List ℕ). HoldsOf (told_after q.responses) x) served.records_are written, tt);
+      kept = rw simple.queues kept;
       put = subst (λ (x : List ℕ). Took taken_before taken_after x) served.text_is put;
+    }
+
+-- the same where the sink did not take the summary
+pub unsaid : (before after : Outside) (name : List ℕ) (plan : Plan) (d : DiskLine) (q : QueueLine) (records text : List ℕ)
+    → ReadsPlan before.files.told name plan → IsSimpleOf plan d q → ServedPlan before.files.told plan d q records text
+    → HoldsOf (after.files.told q.responses) records → KeptBut before.files.told after.files.told (q ∷ []) → FailedPut before.sink after.sink text
+    → Unsaid before after name
+unsaid before after name plan d q records text reads simple served written kept failed =
+    record {
+      run = alone plan d served.file served.history;
+      read = record {
+        plan = reads;
+        start = record { simple = simple.simple; disk = rw simple.disks refl };
+        files = rw simple.queues (served.read, tt);
+      };
+      ordered = ordered_alone plan d served.file served.history;
+      served = record { queues = (served.served, tt); editor = refl };
+      legal = served.legal;
+      written = rw simple.queues (subst (λ (x : List ℕ). HoldsOf (after.files.told q.responses) x) served.records_are written, tt);
+      kept = rw simple.queues kept;
+      failed = subst (λ (x : List ℕ). FailedPut before.sink after.sink x) served.text_is failed;
     }

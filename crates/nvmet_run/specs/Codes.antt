@@ -1,5 +1,7 @@
 -- Exit statuses, and the status of a fault.
 use Rattle.std.specs.Prelude.{ℕ}
+use Rattle.nvmet_run.specs.declared.status.FileNo.{FileNo}
+use Rattle.nvmet_run.specs.declared.status.TheConstants.{PLAN}
 use Rattle.nvmet_run.specs.declared.status.Status.{Status}
 use Rattle.nvmet_run.specs.declared.status.Status.TheVariants as status
 use Rattle.nvmet_run.specs.declared.status.Fault.{Fault}
@@ -20,3 +22,11 @@ status_of (fault.ReadFault file) = status.ReadFault file
 status_of (fault.WriteFault file) = status.WriteFault file
 status_of fault.Memory = status.Memory
 status_of (fault.Limit file what count) = status.Limit file what count
+
+-- the file of a fault; want of memory has none, and is put down to the plan
+abbrev pub file_of : Fault → FileNo
+file_of (fault.Malformed file at) = file
+file_of (fault.ReadFault file) = file
+file_of (fault.WriteFault file) = file
+file_of fault.Memory = PLAN
+file_of (fault.Limit file what count) = file

@@ -1,5 +1,6 @@
 -- What a run that ended well has done.
-use Rattle.std.specs.Prelude.{◌≡◌, ℕ, true, List, [], ◌∷◌, ◌++◌, Option, Some, None, IfSome}
+use Rattle.std.specs.Prelude.{◌≡◌, ◌≢◌, ℕ, true, List, [], ◌∷◌, ◌++◌, Option, Some, None, IfSome, Ok, IsUtf8}
+use Rattle.std.specs.List.{AllByRecursion}
 use Rattle.mem_bdev.specs.Blocks.{IsShape}
 use Rattle.mem_bdev.specs.declared.disk.DiskLine.{DiskLine}
 use Rattle.plan_files.specs.declared.items.Plan.{Plan}
@@ -11,6 +12,7 @@ use Rattle.seq_target.specs.Legal.{IsLegal}
 use Rattle.nvmet_run.specs.Runs.{Run, Placed, IsOrdered, IsLegalRun, placed_from}
 use Rattle.nvmet_run.specs.Served.{IsServed, ServesFile}
 use Rattle.nvmet_run.specs.Printing.{responses, summary}
+use Rattle.nvmet_run.specs.Reading.{plan_of_file, capsules_of_file}
 
 -- what names hold, where that is told
 abbrev pub Told : Type 0
@@ -26,6 +28,7 @@ pub record ReadsPlan (told : Told) (name : List ℕ) (plan : Plan) : Type 0 wher
   pub bytes : List ℕ
   pub held : HoldsOf (told name) bytes
   pub read : IsPlan bytes plan
+  pub exact : plan_of_file bytes ≡ Ok plan
 
 -- the start of a plan with one disk
 abbrev pub Starts : List DiskLine → Target → Type 0
@@ -43,6 +46,7 @@ pub record ReadsCapsules (told : Told) (name : List ℕ) (file : List Capsule) :
   pub bytes : List ℕ
   pub held : HoldsOf (told name) bytes
   pub read : AreCapsules bytes file
+  pub exact : capsules_of_file bytes ≡ Ok file
 
 -- the capsules in the files of the queues
 abbrev pub AreRead : Told → List QueueLine → List (List Capsule) → Type 0
@@ -68,6 +72,10 @@ AreWritten told (q ∷ queues) (list ∷ lists) = HoldsOf (told q.responses) (re
 abbrev pub IsWritten : Told → Run → Type 0
 IsWritten told run = AreWritten told run.plan.queues run.queues
 
+-- names that are no response file of these queues hold what they held
+abbrev pub KeptBut : Told → Told → List QueueLine → Type 0
+KeptBut before after queues = (name : List ℕ) → AllByRecursion (λ q. name ≢ q.responses) queues → after name ≡ before name
+
 -- where the sink tells what it took, it took this and nothing else
 abbrev pub Took : Option (List ℕ) → Option (List ℕ) → List ℕ → Type 0
 Took None new text = Unit {0}
@@ -76,7 +84,7 @@ Took (Some old) new text = HoldsOf new (old ++ text)
 -- ---- the run theorem
 -- There is one run: its plan and capsules are what the files told when they were read; its callers' lists are ordered, and
 -- serve each capsule once and in its file's order; its history is a legal one of the sequential target; the response
--- files hold its prints, and the sink took its summary and nothing else.
+-- files hold its prints and no other name was touched, and the sink took its summary and nothing else.
 pub record Ran (told_before told_after : Told) (taken_before taken_after : Option (List ℕ)) (name : List ℕ) : Type 0 where
   pub run : Run
   pub read : IsRead told_before name run
@@ -84,6 +92,7 @@ pub record Ran (told_before told_after : Told) (taken_before taken_after : Optio
   pub served : IsServed run
   pub legal : IsLegalRun run
   pub written : IsWritten told_after run
+  pub kept : KeptBut told_before told_after run.plan.queues
   pub put : Took taken_before taken_after (summary run)
 
 -- ---- the run of a simple plan, by its parts
@@ -93,6 +102,14 @@ pub record IsSimpleOf (plan : Plan) (disk : DiskLine) (queue : QueueLine) : Type
   pub disks : plan.disks ≡ disk ∷ []
   pub queues : plan.queues ≡ queue ∷ []
   pub shape : IsShape disk.shift disk.blocks
+
+-- a simple plan with a disk and a queue whose files have names that are text
+pub record IsRunnable (plan : Plan) : Type 0 where
+  pub disk : DiskLine
+  pub queue : QueueLine
+  pub simple : IsSimpleOf plan disk queue
+  pub capsules : IsUtf8 queue.capsules
+  pub responses : IsUtf8 queue.responses
 
 -- the run of one queue that was served alone
 abbrev pub alone : Plan → DiskLine → List Capsule → List Entry → Run

@@ -1,7 +1,13 @@
 // Reading and writing the files of a run.
-ghost use Rattle.std.specs.Prelude.{◌≡◌, ◌≤◌, All, length, OnOk, IfOk};
+ghost use Rattle.std.specs.Prelude.{◌≡◌, ◌≢◌, ◌≤◌, ◌-◌, ◌==◌, ℕ, List, All, length, count_by, false, not, slice_get, IsUtf8, OnOk, IfOk, IfErr};
+ghost use Rattle.std.specs.Option.{option_map_or};
 ghost use Rattle.plan_files.specs.Capsules.{AreCapsules, IsWholeIn, capsules_in};
-ghost use Rattle.nvmet_run.specs.Headline.{HoldsOf, ReadsPlan, Took};
+ghost use Rattle.plan_files.specs.Lines.{lines_of};
+ghost use Rattle.plan_files.specs.Plans.{IsPlan};
+ghost use Rattle.nvmet_run.specs.Headline.{HoldsOf, ReadsPlan, IsRunnable, Took};
+ghost use Rattle.nvmet_run.specs.Outsides.{files_view, sink_view, FailedPut};
+ghost use Rattle.nvmet_run.specs.Reading.{content_of, plan_error, capsule_error, simple_plan_in, plan_of_file, capsules_in_bytes, capsules_of_file};
+ghost use Rattle.nvmet_run.specs.Refusals.{FileRefused, Gives, Refuses, WriteRefused};
 
 use crate::status::{At, CAPSULES, Fault, FileNo, PLAN, RESPONSES, SINK};
 use mem_bdev::Name;
@@ -28,7 +34,9 @@ fn content_of<F: Files>(
     requires { limit ≤ 67108864 }
     ensures told { IfOk result (λ v. HoldsOf (F.told files.old name.now) v.items) }
     ensures short { IfOk result (λ v. length v.items ≤ limit) }
+    ensures refused { IfErr result (λ f. FileRefused file name.now (content_of limit file) (files_view (F.told files.old) (F.faults files.old) (F.last files.old)) (files_view (F.told files.new) (F.faults files.new) (F.last files.new)) f) }
     ensures same { F.told files.new ≡ F.told files.old }
+    ensures later { F.faults files.old ≤ F.faults files.new }
 {
     let mut bytes = Vec::new(alloc);
     match files.read(name, limit, &mut bytes) {
@@ -43,7 +51,9 @@ fn content_of<F: Files>(
     }
 }
 
-fn plan_fault(error: PlanError) -> Fault {
+fn plan_fault(error: PlanError) -> Fault
+    ensures { result ≡ plan_error error }
+{
     match error {
         PlanError::BadLine { line } => Fault::Malformed {
             file: PLAN,
@@ -58,7 +68,9 @@ fn plan_fault(error: PlanError) -> Fault {
     }
 }
 
-fn capsules_fault(error: CapsuleError) -> Fault {
+fn capsules_fault(error: CapsuleError) -> Fault
+    ensures { result ≡ capsule_error error }
+{
     match error {
         CapsuleError::Cut { offset } => Fault::Malformed {
             file: CAPSULES,
@@ -73,32 +85,61 @@ fn capsules_fault(error: CapsuleError) -> Fault {
     }
 }
 
-// How many lines a text has: each ends with byte 0Ah, and the last may lack it.
-fn line_count(bytes: &[u8]) -> u32
-    requires { length bytes.now ≤ 65536 }
-    ensures { result ≤ 65537 }
+// How many line ends a text has.
+fn line_ends(bytes: &[u8]) -> usize
+    ensures { result ≡ count_by (λ b. b == 10) bytes.now }
 {
-    let ended = bytes.iter().filter(|b| **b == b'\n').count() as u32;
+    bytes.iter().filter(|b| **b == b'\n').count()
+}
+
+// Whether the last line of a text has no end.
+fn is_open(bytes: &[u8]) -> bool
+    ensures { result ≡ option_map_or (λ b. not (b == 10)) (slice_get bytes.now (length bytes.now - 1)) false }
+{
     match bytes.last() {
-        Some(b'\n') | None => ended,
-        Some(_) => ended + 1,
+        Some(b) => *b != b'\n',
+        None => false,
     }
 }
 
-/// Reads the plan of this name. A plan that isn't `simple` is refused on the line after its last, since no other is run
-/// yet.
-pub fn plan_in<F: Files>(alloc: Global, name: &str, files: &mut F) -> Result<Plan, Fault>
-    ensures read { IfOk result (λ plan. ReadsPlan (F.told files.old) name.now plan) }
-    ensures same { F.told files.new ≡ F.told files.old }
+// How many lines a text has: each ends with byte 0Ah, and the last may lack it.
+fn line_count(bytes: &[u8]) -> u32
+    requires { length bytes.now ≤ 65536 }
+    ensures value { result ≡ length (lines_of bytes.now) }
+    ensures few { result ≤ 65537 }
 {
-    let bytes = content_of(alloc, name, MAX_PLAN_BYTES, PLAN, files)?;
-    match read_plan(alloc, &bytes) {
+    let ended = line_ends(bytes) as u32;
+    if is_open(bytes) { ended + 1 } else { ended }
+}
+
+// The simple plan in these bytes. Another plan is refused on the line after its last, since no other is run yet.
+#[tactic(auto, unfolding(crate::specs::Reading::simple_plan_in))]
+fn plan_of(alloc: Global, bytes: &[u8]) -> Result<Plan, Fault>
+    requires { length bytes.now ≤ 65536 }
+    ensures spelled { IfOk result (λ plan. IsPlan bytes.now plan) }
+    ensures exact { Gives (λ plan. plan) result (simple_plan_in bytes.now) }
+{
+    match read_plan(alloc, bytes) {
         Ok(plan) if plan.simple => Ok(plan),
         Ok(_) => Err(Fault::Malformed {
             file: PLAN,
-            at: At::Line(line_count(&bytes) + 1),
+            at: At::Line(line_count(bytes) + 1),
         }),
         Err(error) => Err(plan_fault(error)),
+    }
+}
+
+/// Reads the plan of this name.
+pub fn plan_in<F: Files>(alloc: Global, name: &str, files: &mut F) -> Result<Plan, Fault>
+    ensures read { IfOk result (λ plan. ReadsPlan (F.told files.old) name.now plan) }
+    ensures runnable { IfOk result (λ plan. IsRunnable plan) }
+    ensures refused { IfErr result (λ f. FileRefused PLAN name.now plan_of_file (files_view (F.told files.old) (F.faults files.old) (F.last files.old)) (files_view (F.told files.new) (F.faults files.new) (F.last files.new)) f) }
+    ensures same { F.told files.new ≡ F.told files.old }
+    ensures later { F.faults files.old ≤ F.faults files.new }
+{
+    match content_of(alloc, name, MAX_PLAN_BYTES, PLAN, files) {
+        Ok(bytes) => plan_of(alloc, &bytes),
+        Err(fault) => Err(fault),
     }
 }
 
@@ -109,35 +150,53 @@ pub struct CapsuleFile {
     pub capsules: Vec<Capsule>,
 }
 
+// The capsules in these bytes.
+fn capsules_in(alloc: Global, bytes: &[u8]) -> Result<Vec<Capsule>, Fault>
+    ensures spelled { IfOk result (λ v. AreCapsules bytes.now (capsules_in bytes.now v.items)) }
+    ensures whole { IfOk result (λ v. All (IsWholeIn bytes.now) v.items) }
+    ensures few { IfOk result (λ v. length v.items ≤ 65536) }
+    ensures exact { Gives (λ v. capsules_in bytes.now v.items) result (capsules_in_bytes bytes.now) }
+{
+    match read_capsules(alloc, bytes) {
+        Ok(capsules) => Ok(capsules),
+        Err(error) => Err(capsules_fault(error)),
+    }
+}
+
 /// Reads the capsule file of queue 1.
 pub fn capsules_of<F: Files>(
     alloc: Global,
     name: &Name,
     files: &mut F,
 ) -> Result<CapsuleFile, Fault>
+    requires { IsUtf8 name.now }
     ensures told { IfOk result (λ f. HoldsOf (F.told files.old name.now) f.bytes.items) }
     ensures read { IfOk result (λ f. AreCapsules f.bytes.items (capsules_in f.bytes.items f.capsules.items)) }
+    ensures exact { IfOk result (λ f. capsules_of_file f.bytes.items ≡ Ok (capsules_in f.bytes.items f.capsules.items)) }
     ensures whole { IfOk result (λ f. All (IsWholeIn f.bytes.items) f.capsules.items) }
     ensures few { IfOk result (λ f. length f.capsules.items ≤ 65536) }
+    ensures refused { IfErr result (λ f. FileRefused CAPSULES name.now capsules_of_file (files_view (F.told files.old) (F.faults files.old) (F.last files.old)) (files_view (F.told files.new) (F.faults files.new) (F.last files.new)) f) }
     ensures same { F.told files.new ≡ F.told files.old }
+    ensures later { F.faults files.old ≤ F.faults files.new }
 {
-    let Some(name) = name.as_text() else {
-        return Err(Fault::ReadFault { file: CAPSULES });
-    };
-    let bytes = content_of(alloc, name, MAX_QUEUE_BYTES, CAPSULES, files)?;
-    match read_capsules(alloc, &bytes) {
-        Ok(capsules) => Ok(CapsuleFile { bytes, capsules }),
-        Err(error) => Err(capsules_fault(error)),
+    let name = name.as_text().unwrap();
+    match content_of(alloc, name, MAX_QUEUE_BYTES, CAPSULES, files) {
+        Ok(bytes) => match capsules_in(alloc, &bytes) {
+            Ok(capsules) => Ok(CapsuleFile { bytes, capsules }),
+            Err(fault) => Err(fault),
+        },
+        Err(fault) => Err(fault),
     }
 }
 
 /// Writes the response file of queue 1.
 pub fn written<F: Files>(name: &Name, bytes: &[u8], files: &mut F) -> Result<(), Fault>
-    ensures { OnOk result (HoldsOf (F.told files.new name.now) bytes.now) }
+    requires { IsUtf8 name.now }
+    ensures holds { OnOk result (HoldsOf (F.told files.new name.now) bytes.now) }
+    ensures others { (other : List ℕ) → other ≢ name.now → F.told files.new other ≡ F.told files.old other }
+    ensures refused { IfErr result (λ f. WriteRefused name.now (files_view (F.told files.old) (F.faults files.old) (F.last files.old)) (files_view (F.told files.new) (F.faults files.new) (F.last files.new)) f) }
 {
-    let Some(name) = name.as_text() else {
-        return Err(Fault::WriteFault { file: RESPONSES });
-    };
+    let name = name.as_text().unwrap();
     match files.write(name, bytes) {
         Ok(()) => Ok(()),
         Err(WriteError::Failed) => Err(Fault::WriteFault { file: RESPONSES }),
@@ -147,7 +206,8 @@ pub fn written<F: Files>(name: &Name, bytes: &[u8], files: &mut F) -> Result<(),
 
 /// Puts the text of a run that ended well.
 pub fn put<K: Sink>(text: &str, out: &mut K) -> Result<(), Fault>
-    ensures { OnOk result (Took (K.taken out.old) (K.taken out.new) text.now) }
+    ensures took { OnOk result (Took (K.taken out.old) (K.taken out.new) text.now) }
+    ensures refused { IfErr result (λ f. (f ≡ Fault.WriteFault SINK) × FailedPut (sink_view (K.taken out.old) (K.faults out.old)) (sink_view (K.taken out.new) (K.faults out.new)) text.now) }
 {
     match out.put(text.as_bytes()) {
         Ok(()) => Ok(()),

@@ -102,7 +102,7 @@ pub fn put_line<K: Sink>(file: &[u8], fault: &Fault, out: &mut K) -> Result<(), 
         Fault::ReadFault { file: _ } => put_name(b"cannot read ", file, out),
         Fault::WriteFault { file: no } => {
             if no.0 == SINK.0 {
-                out.put(b"")
+                Ok(())
             } else {
                 put_name(b"cannot write ", file, out)
             }

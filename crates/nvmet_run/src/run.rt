@@ -1,12 +1,18 @@
-ghost use Rattle.std.specs.Prelude.{◌≡◌, ◌≢◌, IfOk, IfSome, OnOk, string_bytes};
+ghost use Rattle.std.specs.Prelude.{◌≡◌, ◌≢◌, ◌≤◌, ◌⊎◌, Some, None, IfOk, IfErr, OnOk, IsUtf8, string_bytes};
+ghost use Rattle.plan_files.specs.Outside.{Rose};
 ghost use Rattle.nvmet_run.specs.Codes.{status_of};
-ghost use Rattle.nvmet_run.specs.Headline.{ReadsPlan, ServedPlan, IsSimpleOf, Ran};
+ghost use Rattle.nvmet_run.specs.Headline.{ReadsPlan, ServedPlan, IsSimpleOf, IsRunnable, Ran};
+ghost use Rattle.nvmet_run.specs.Outsides.{files_view, sink_view, outside, Said};
+ghost use Rattle.nvmet_run.specs.Reading.{capsules_of_file};
+ghost use Rattle.nvmet_run.specs.Refusals.{FileRefused, ServingRefused, Refusal, FilesTell, name_by};
+ghost use Rattle.nvmet_run.specs.Texts.{line_of};
+ghost use Rattle.nvmet_run.specs.declared.status.Fault.{Fault};
 
 use crate::files::{capsules_of, plan_in, put, written};
 use crate::output::Output;
 use crate::report::put_line;
 use crate::serve::serve_file;
-use crate::status::{At, CAPSULES, Fault, FileNo, PLAN, RESPONSES, Status};
+use crate::status::{CAPSULES, Fault, FileNo, RESPONSES, Status};
 use crate::summary::summary_text;
 use mem_bdev::{Buffer, DiskLine};
 use plan_files::{Files, Gate, Plan, QueueLine, Sink, room};
@@ -31,8 +37,11 @@ fn serve_plan<F: Files>(
     files: &mut F,
 ) -> Result<Printed, Fault>
     requires simple { IsSimpleOf plan.now disk.now queue.now }
+    requires text { IsUtf8 queue.now.capsules }
     ensures served { IfOk result (λ m. ServedPlan (F.told files.old) plan.now disk.now queue.now m.records.items (string_bytes m.text)) }
+    ensures refused { IfErr result (λ f. FileRefused CAPSULES queue.now.capsules capsules_of_file (files_view (F.told files.old) (F.faults files.old) (F.last files.old)) (files_view (F.told files.new) (F.faults files.new) (F.last files.new)) f) }
     ensures same { F.told files.new ≡ F.told files.old }
+    ensures later { F.faults files.old ≤ F.faults files.new }
 {
     let _plan = plan;
     let file = capsules_of(alloc, &queue.capsules, files)?;
@@ -55,22 +64,18 @@ fn serve_plan<F: Files>(
 }
 
 // The disk and the queue of a simple plan.
-fn parts(plan: &Plan) -> Option<(&DiskLine, &QueueLine)>
-    ensures { IfSome result (λ p. IsSimpleOf plan.now p.0.now p.1.now) }
+fn parts(plan: &Plan) -> (&DiskLine, &QueueLine)
+    requires { IsRunnable plan.now }
+    ensures simple { IsSimpleOf plan.now result.0.now result.1.now }
+    ensures capsules { IsUtf8 result.1.now.capsules }
+    ensures responses { IsUtf8 result.1.now.responses }
 {
     let disks = plan.disks.as_slice();
     let queues = plan.queues.as_slice();
-    if !plan.simple || disks.len() != 1 || queues.len() != 1 {
-        return None;
-    }
-    let disk = &disks[0];
-    if !disk.is_shape() {
-        return None;
-    }
-    Some((disk, &queues[0]))
+    (&disks[0], &queues[0])
 }
 
-// The run of a plan that was read.
+// Serves a plan that was read, writes its response file and puts its summary.
 fn run_read<F: Files, K: Sink>(
     alloc: Global,
     name: &str,
@@ -79,37 +84,59 @@ fn run_read<F: Files, K: Sink>(
     out: &mut K,
 ) -> Result<(), Fault>
     requires read { ReadsPlan (F.told files.old) name.now plan.now }
-    ensures { OnOk result (Ran (F.told files.old) (F.told files.new) (K.taken out.old) (K.taken out.new) name.now) }
+    requires runnable { IsRunnable plan.now }
+    ensures ran { OnOk result (Ran (F.told files.old) (F.told files.new) (K.taken out.old) (K.taken out.new) name.now) }
+    ensures refused { IfErr result (λ f. ServingRefused (outside (F.told files.old) (F.faults files.old) (F.last files.old) (K.taken out.old) (K.faults out.old)) (outside (F.told files.new) (F.faults files.new) (F.last files.new) (K.taken out.new) (K.faults out.new)) name.now plan.now.queues f) }
 {
     let _name = name;
-    let Some((disk, queue)) = parts(plan) else {
-        return Err(Fault::Malformed {
-            file: PLAN,
-            at: At::Line(1),
-        });
-    };
+    let (disk, queue) = parts(plan);
     let made = serve_plan(alloc, plan, disk, queue, files)?;
     written(&queue.responses, &made.records, files)?;
     put(made.text.as_str(), out)?;
     Ok(())
 }
 
-// The name of a file of a simple plan.
-fn name_of<'a>(plan: &'a Plan, name: &'a [u8], file: FileNo) -> &'a [u8] {
-    match plan.queues.as_slice() {
+// The name of a file of a run, by its number.
+fn name_of<'a>(queues: &'a [QueueLine], name: &'a [u8], file: FileNo) -> &'a [u8]
+    ensures { result.now ≡ name_by queues.now name.now file }
+{
+    match queues {
         [queue, ..] if file == CAPSULES => queue.capsules.as_bytes(),
         [queue, ..] if file == RESPONSES => queue.responses.as_bytes(),
         _ => name,
     }
 }
 
-// Puts the line of a fault, and gives its status.
-fn ended<K: Sink>(file: &[u8], fault: Fault, out: &mut K) -> Status
-    ensures status { result ≡ status_of fault }
-    ensures fault { result ≢ Status.Fine }
+// Puts the line of a fault in the file of this name, and hands the fault on.
+fn ended<K: Sink>(file: &[u8], fault: Fault, out: &mut K) -> Fault
+    ensures same { result ≡ fault }
+    ensures said { Said (sink_view (K.taken out.old) (K.faults out.old)) (sink_view (K.taken out.new) (K.faults out.new)) (line_of file.now fault) }
 {
     let _ = put_line(file, &fault, out);
-    fault.status()
+    fault
+}
+
+// The run of a plan, with the line of its fault.
+fn run_whole<F: Files, K: Sink>(
+    alloc: Global,
+    plan: &str,
+    files: &mut F,
+    out: &mut K,
+) -> Result<(), Fault>
+    ensures ran { OnOk result (Ran (F.told files.old) (F.told files.new) (K.taken out.old) (K.taken out.new) plan.now) }
+    ensures refused { IfErr result (λ f. Refusal (outside (F.told files.old) (F.faults files.old) (F.last files.old) (K.taken out.old) (K.faults out.old)) (outside (F.told files.new) (F.faults files.new) (F.last files.new) (K.taken out.new) (K.faults out.new)) plan.now f) }
+{
+    let read = match plan_in(alloc, plan, files) {
+        Ok(read) => read,
+        Err(fault) => return Err(ended(plan.as_bytes(), fault, out)),
+    };
+    match run_read(alloc, plan, &read, files, out) {
+        Ok(()) => Ok(()),
+        Err(fault) => {
+            let file = name_of(read.queues.as_slice(), plan.as_bytes(), fault.file());
+            Err(ended(file, fault, out))
+        }
+    }
 }
 
 /// Runs a plan: reads it and its capsule files, serves them, writes the response files and puts the summary.
@@ -124,15 +151,17 @@ pub fn run_plan<R: Wait + Threads + Sync, F: Files, K: Sink, G: Gate + Sync>(
     _gate: &G,
 ) -> Status
     ensures fine { result ≡ Status.Fine → Ran (F.told files.old) (F.told files.new) (K.taken out.old) (K.taken out.new) plan.now }
+    // The words are no matter of this call.
+    ensures usage { result ≢ Status.Usage }
+    // Why another status came, and what it left.
+    ensures refused { (f : Fault) → result ≡ status_of f → Refusal (outside (F.told files.old) (F.faults files.old) (F.last files.old) (K.taken out.old) (K.faults out.old)) (outside (F.told files.new) (F.faults files.new) (F.last files.new) (K.taken out.new) (K.faults out.new)) plan.now f }
+    // Where told files have a first fault and no call on files fails, it's the answer, unless memory runs out.
+    ensures exact { (f : Fault) → FilesTell (F.told files.old) plan.now (Some f) → ¬ Rose (F.faults files.old) (F.faults files.new) → (result ≡ status_of f) ⊎ (result ≡ Status.Memory) }
+    // Where told files have none and no call fails, the run ends well, unless memory runs out.
+    ensures complete { FilesTell (F.told files.old) plan.now None → ¬ Rose (F.faults files.old) (F.faults files.new) → ¬ Rose (K.faults out.old) (K.faults out.new) → (result ≡ Status.Fine) ⊎ (result ≡ Status.Memory) }
 {
-    match plan_in(alloc, plan, files) {
-        Ok(read) => match run_read(alloc, plan, &read, files, out) {
-            Ok(()) => Status::Fine,
-            Err(fault) => {
-                let file = name_of(&read, plan.as_bytes(), fault.file());
-                ended(file, fault, out)
-            }
-        },
-        Err(fault) => ended(plan.as_bytes(), fault, out),
+    match run_whole(alloc, plan, files, out) {
+        Ok(()) => Status::Fine,
+        Err(fault) => fault.status(),
     }
 }

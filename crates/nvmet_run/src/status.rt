@@ -99,10 +99,12 @@ pub enum Fault {
 }
 
 impl Fault {
-    ghost use Rattle.nvmet_run.specs.Codes.{status_of};
+    ghost use Rattle.nvmet_run.specs.Codes.{file_of, status_of};
 
     /// The file of this fault; the plan for want of memory, which names none.
-    pub fn file(&self) -> FileNo {
+    pub fn file(&self) -> FileNo
+        ensures { result ≡ file_of self.now }
+    {
         match self {
             Fault::Malformed { file, .. }
             | Fault::ReadFault { file }

@@ -1,0 +1,12 @@
+use Rattle.std.proofs.Common.{refl}
+use Rattle.nvmet_run.proofs.Refusing.{failed_call, kept_all}
+use Rattle.nvmet_run.proofs.files.written.Goals as goal
+
+pub returns-in-Err-Failed-clause-refused : goal.returns-in-Err-Failed-clause-refused
+returns-in-Err-Failed-clause-refused g c =
+    let name = rw c.unwrap-name.ensures at c.as_text.ensures.value in
+    let cause = rw c.in-Err-Failed.field-0-is at c.in-Err-Failed.ensures.cause in
+    (refl, failed_call _ _ _ _ (rw name at c.write.ensures.last) cause.failed)
+
+pub returns-in-Err-Memory-clause-refused : goal.returns-in-Err-Memory-clause-refused
+returns-in-Err-Memory-clause-refused g c = kept_all _ _ _ _ _ (rw c.in-Err-Memory.field-0-is at c.in-Err-Memory.ensures.content)

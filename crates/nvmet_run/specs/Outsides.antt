@@ -1,0 +1,55 @@
+-- What lies outside of a run, as far as files and sink speak of it, and calls that failed.
+use Rattle.std.specs.Prelude.{◌≡◌, ◌≤◌, ℕ, Bool, true, false, List, take, Option, Some, Result, Err}
+use Rattle.plan_files.specs.Outside.{LastCall, Rose, SinkTakes, SinkCause}
+use Rattle.plan_files.specs.declared.outside.SinkFault.{SinkFault}
+use Rattle.nvmet_run.specs.Headline.{Told}
+
+-- what names hold, how many calls have failed, the last call
+pub record FilesView : Type 0 where
+  pub told : Told
+  pub faults : ℕ
+  pub last : Option LastCall
+
+-- the bytes taken, how many calls have failed
+pub record SinkView : Type 0 where
+  pub taken : Option (List ℕ)
+  pub faults : ℕ
+
+pub record Outside : Type 0 where
+  pub files : FilesView
+  pub sink : SinkView
+
+abbrev pub files_view : Told → ℕ → Option LastCall → FilesView
+files_view told faults last = record { told = told; faults = faults; last = last }
+
+abbrev pub sink_view : Option (List ℕ) → ℕ → SinkView
+sink_view taken faults = record { taken = taken; faults = faults }
+
+abbrev pub outside : Told → ℕ → Option LastCall → Option (List ℕ) → ℕ → Outside
+outside told faults last taken sink_faults = record { files = files_view told faults last; sink = sink_view taken sink_faults }
+
+-- ---- files
+
+-- the last call on the files was the read or the write of this name, and the count of faults rose in it
+pub record FailedCall (wrote : Bool) (name : List ℕ) (before after : FilesView) : Type 0 where
+  pub last : after.last ≡ Some (record { wrote = wrote; name = take 255 name; rose = true })
+  pub rose : Rose before.faults after.faults
+
+-- each name holds what it held
+abbrev pub Kept : Told → Told → Type 0
+Kept before after = (name : List ℕ) → after name ≡ before name
+
+-- ---- the sink
+
+-- It took this text and nothing else; or a front of it, and then the count of faults rose. Nothing is claimed of bytes
+-- where it tells nothing.
+pub record Said (before after : SinkView) (text : List ℕ) : Type 0 where
+  pub answer : Result (Unit {0}) SinkFault
+  pub content : SinkTakes before.taken after.taken text answer
+  pub cause : SinkCause before.faults after.faults answer
+
+-- it took a front of this text and nothing else, and the count of faults rose
+pub record FailedPut (before after : SinkView) (text : List ℕ) : Type 0 where
+  pub error : SinkFault
+  pub content : SinkTakes before.taken after.taken text (Err error)
+  pub cause : SinkCause before.faults after.faults (Err error)
