@@ -1,5 +1,5 @@
 -- What the program's target of a simple plan stands for.
-use Rattle.std.specs.Prelude.{◌≡◌, ℕ, true, IsTrue, List, [], ◌∷◌, length, replicate, Option, Some, None}
+use Rattle.std.specs.Prelude.{◌≡◌, ◌==◌, ◌&&◌, ℕ, Bool, true, false, IsTrue, List, [], ◌∷◌, length, replicate, Option, Some, None}
 use Rattle.mem_bdev.specs.Blocks.{Blocks}
 use Rattle.sqe_cqe.specs.declared.sqe.Sqe.{Sqe}
 use Rattle.sqe_cqe.specs.declared.one.OneRow.{OneRow}
@@ -15,11 +15,13 @@ use Rattle.io_commands.specs.declared.jobs.Admit.TheVariants.{Refused, Run}
 use Rattle.io_commands.specs.Jobs.{disk_of, bytes_read, InRange, FitsJob}
 use Rattle.io_commands.specs.Admission.{io_admission}
 use Rattle.seq_target.specs.declared.calls.Reply.{Reply}
+use Rattle.seq_target.specs.declared.calls.Call as named
+use Rattle.seq_target.specs.declared.calls.Call.TheVariants as name
 use Rattle.seq_target.specs.declared.target.Command.{Command}
 use Rattle.seq_target.specs.declared.target.Executed.{Executed}
 use Rattle.seq_target.specs.declared.target.Target as code
 use Rattle.seq_target.specs.Configuration.{simple_settings, simple_nqn}
-use Rattle.seq_target.specs.Model.{Call, Binding, Disk, HeldCommand, Target}
+use Rattle.seq_target.specs.Model.{Call, Submit, Execute, Control, Binding, Disk, HeldCommand, Target}
 use Rattle.seq_target.specs.Steps.{is_lawful, reply_of, bytes_of, target_after}
 
 abbrev pub held_list : Option Command → List HeldCommand
@@ -55,6 +57,27 @@ Simulates old call reply bytes new = (t : Target) → StandsFor old t → Does t
 -- the target holds no command
 abbrev pub IsIdle : code.Target → Type 0
 IsIdle c = c.held ≡ None
+
+-- whether the target holds this command
+abbrev pub holds : Option Command → ℕ → ℕ → Bool
+holds None queue number = false
+holds (Some h) queue number = (h.queue == queue) && (h.number == number)
+
+-- the model's call with these numbers, whatever its input
+abbrev pub IsCallOf : named.Call → Call → Type 0
+IsCallOf (name.Submit queue number) (Submit q n e) = (queue ≡ q) × (number ≡ n)
+IsCallOf (name.Submit queue number) (Execute q n payload) = ⊥
+IsCallOf (name.Submit queue number) (Control q n e payload) = ⊥
+IsCallOf (name.Execute queue number) (Submit q n e) = ⊥
+IsCallOf (name.Execute queue number) (Execute q n payload) = (queue ≡ q) × (number ≡ n)
+IsCallOf (name.Execute queue number) (Control q n e payload) = ⊥
+IsCallOf (name.Control queue number) (Submit q n e) = ⊥
+IsCallOf (name.Control queue number) (Execute q n payload) = ⊥
+IsCallOf (name.Control queue number) (Control q n e payload) = (queue ≡ q) × (number ≡ n)
+
+-- of each model that the program's target stands for, such a call is lawful or not
+abbrev pub IsLawfulAs : code.Target → named.Call → Bool → Type 0
+IsLawfulAs c x b = (t : Target) (k : Call) → StandsFor c t → IsCallOf x k → is_lawful t k ≡ b
 
 -- the job is on the one disk, and may be done with so many bytes of data
 abbrev pub FitsDisk : Job → Blocks → ℕ → Type 0

@@ -12,6 +12,6 @@ mod target;
 #[cfg(test)]
 mod tests;
 
-pub use calls::Reply;
+pub use calls::{Call, Reply};
 pub use law::lawful_calls_are_legal;
 pub use target::{Executed, Target};

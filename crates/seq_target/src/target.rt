@@ -2,10 +2,10 @@ ghost use Rattle.std.specs.Prelude.{◌≡◌, ◌≢◌, ◌≤◌, [], IfOk, l
 ghost use Rattle.mem_bdev.specs.Blocks.{IsShape, most_bytes};
 ghost use Rattle.sqe_cqe.specs.Sqe.{payload_len};
 ghost use Rattle.seq_target.specs.Model.{Submit, Execute, Control, simple_start};
-ghost use Rattle.seq_target.specs.Stands.{StandsFor, Simulates, IsIdle, IsHolding, FitsAdmit, simple_row, simple_admission, bytes_lent, CanLend};
+ghost use Rattle.seq_target.specs.Stands.{StandsFor, Simulates, IsIdle, IsHolding, IsLawfulAs, holds, FitsAdmit, simple_row, simple_admission, bytes_lent, CanLend};
 ghost use Rattle.sqe_cqe.specs.Answers.{HasShape};
 
-use crate::calls::Reply;
+use crate::calls::{Call, Reply};
 use io_commands::{Admit, Job, admit_io, change, do_io, lend};
 use mem_bdev::{Buffer, Disk, DiskLine};
 use sqe_cqe::{Ana, Bound, Cqe, INVALID_OPCODE, NsRow, OneLook, OneRow, SUCCESS, Seen, Sqe};
@@ -65,6 +65,26 @@ impl Target {
     {
         let disk = Disk::new(alloc, line.shift, line.blocks)?;
         Ok(Target { disk, held: None })
+    }
+
+    /// Whether a call is lawful here: an execute where its command is held, every other call always. Takes no memory.
+    pub fn is_lawful(&self, call: &Call) -> bool
+        ensures { IsLawfulAs self.now call.now result }
+    {
+        match call {
+            Call::Submit { .. } | Call::Control { .. } => true,
+            Call::Execute { queue, number } => self.is_held(*queue, *number),
+        }
+    }
+
+    // Whether this command is held.
+    fn is_held(&self, queue: u32, number: u32) -> bool
+        ensures { result ≡ holds self.now.held queue number }
+    {
+        match self.held {
+            None => false,
+            Some(command) => command.queue == queue && command.number == number,
+        }
     }
 
     /// Submits a command of a queue: it is answered with the status of the first check that fails, or held.
