@@ -14,4 +14,5 @@ pub mod Standing
 pub mod Start
 pub mod Subsystems
 pub mod Table
+pub mod Told
 pub mod Values

@@ -3,7 +3,7 @@ use Rattle.std.specs.Prelude.{ℕ, ◌==◌, ◌&&◌, ◌||◌, not, nat_lt, Bo
 use Rattle.std.specs.Str.{bytes_eq}
 use Rattle.std.specs.FinMap as map
 use Rattle.configfs_tree.specs.Nqns.{discovery_nqn}
-use Rattle.configfs_tree.specs.Values.{is_path, one_of, group_named, state_named, same_state}
+use Rattle.configfs_tree.specs.Values.{is_path, one_of, group_named, state_named, same_state, same_bool}
 use Rattle.configfs_tree.specs.Subsystems.{fresh_subsystem, put_in_subsystem, put_namespace, add_namespace, remove_namespace}
 use Rattle.configfs_tree.specs.Ports.{fresh_port, put_in_port, put_group, remove_group}
 use Rattle.configfs_tree.specs.Asked.{is_busy, is_draining, path_names_disk, path_is_held, some_port_links, some_subsystem_allows, controller_at_subsystem, controller_at_port, subsystem_place_taken, port_place_taken, has_path}
@@ -117,10 +117,7 @@ set_attr_allow_any_host t sub value = in_subsystem t sub (λ s.
     ∷ (any && nat_lt 0 (map.len s.allowed_hosts), EINVAL)
     ∷ [])
     (unless_stands (same_bool s.allow_any_host any) t
-    (Accepts (on_subsystem t sub (put_in_subsystem (AllowAnyHost any))) (touching (touches.Subsystem s.at))))) where
-      same_bool : Bool → Bool → Bool
-      same_bool true b = b
-      same_bool false b = not b
+    (Accepts (on_subsystem t sub (put_in_subsystem (AllowAnyHost any))) (touching (touches.Subsystem s.at)))))
 
 unfoldable pub set_attr_serial : Tree → List ℕ → List ℕ → Outcome
 set_attr_serial t sub value = in_subsystem t sub (λ s. first_of (

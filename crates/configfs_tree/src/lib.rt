@@ -25,6 +25,8 @@ mod ports;
 mod subsystem_edits;
 mod subsystems;
 #[cfg(test)]
+mod test_rows;
+#[cfg(test)]
 mod tests;
 mod tree;
 mod values;
