@@ -25,7 +25,7 @@ use Rattle.configfs_tree.proofs.Gets.{some_same, none_some, cases_key, get-inser
 use Rattle.configfs_tree.proofs.Placing.{places_updated}
 use Rattle.configfs_tree.proofs.Held.{here, cases_name, moved_same, altered_kept, altered_free}
 
-abbrev Rows : Type 0
+abbrev pub Rows : Type 0
 Rows = FinMap name_order SubsystemRow
 
 pub names_same : IsAntisymmetric name_order
@@ -47,7 +47,7 @@ placed_attr m sub f same a j = ⊎_elim
     (λ ne. ap (placed_in j) (get-update_beside nat_list_cmp_total names_same m sub f a ne))
     (cases_name a sub)
 
-abbrev Spaces : Type 0
+abbrev pub Spaces : Type 0
 Spaces = FinMap nat_cmp NamespaceRow
 
 -- a subsystem with its namespaces edited

@@ -12,7 +12,7 @@ use Rattle.configfs_tree.specs.Nqns.{name_order}
 use Rattle.configfs_tree.specs.Maps.{update_at}
 use Rattle.configfs_tree.specs.Rows.{put_in, fresh_namespace}
 use Rattle.configfs_tree.specs.Subsystems.{fresh_subsystem, put_in_subsystem, put_allowed, put_namespace}
-use Rattle.configfs_tree.specs.Ports.{fresh_port, put_in_port, put_link, put_group, remove_group}
+use Rattle.configfs_tree.specs.Ports.{fresh_port, with_address, put_link, put_group, remove_group}
 use Rattle.configfs_tree.specs.Places.{lowest_free}
 use Rattle.configfs_tree.specs.Holders.{disk_of, holder_of, hold, holds_path, has_disk, is_held, path_or_empty}
 use Rattle.configfs_tree.specs.Outcome.{Outcome, unless_stands, on_subsystem, on_port}
@@ -52,8 +52,8 @@ use Rattle.configfs_tree.specs.declared.namespaces.NamespacePut.TheVariants.{Pat
 use Rattle.configfs_tree.specs.declared.subsystems.SubsystemPut.{SubsystemPut}
 use Rattle.configfs_tree.specs.declared.subsystems.SubsystemPut.TheVariants.{AllowAnyHost, Serial, ModelName}
 use Rattle.configfs_tree.specs.declared.ports.AnaState.TheVariants as state
-use Rattle.configfs_tree.specs.declared.ports.PortPut.{PortPut}
-use Rattle.configfs_tree.specs.declared.ports.PortPut.TheVariants as port
+use Rattle.configfs_tree.specs.declared.ports.Address.{Address}
+use Rattle.configfs_tree.specs.declared.ports.Address.TheVariants as address
 use Rattle.configfs_tree.specs.declared.edits.Attr.{Attr}
 use Rattle.configfs_tree.specs.declared.edits.Attr.TheVariants as attr
 use Rattle.configfs_tree.specs.declared.edits.Folder.{Folder}
@@ -274,23 +274,23 @@ k_set_of_namespace t sub nsid attr.Enable value h = k_set_enable t sub nsid valu
 k_set_of_namespace t sub nsid a value h = refuses _
 
 -- ---- set, on a port
-address_put : (t : Tree) (id : ℕ) (put : PortPut) → IsStanding t → IsStanding (on_port t id (put_in_port put))
-address_put t id (port.Trtype value) h = port_put t id (put_in_port (port.Trtype value)) (λ p. refl) (λ p. refl) (λ p one. one) h
-address_put t id (port.Adrfam value) h = port_put t id (put_in_port (port.Adrfam value)) (λ p. refl) (λ p. refl) (λ p one. one) h
-address_put t id (port.Traddr value) h = port_put t id (put_in_port (port.Traddr value)) (λ p. refl) (λ p. refl) (λ p one. one) h
-address_put t id (port.Trsvcid value) h = port_put t id (put_in_port (port.Trsvcid value)) (λ p. refl) (λ p. refl) (λ p one. one) h
-address_put t id (port.Treq value) h = port_put t id (put_in_port (port.Treq value)) (λ p. refl) (λ p. refl) (λ p one. one) h
+address_put : (t : Tree) (id : ℕ) (a : Address) (value : List ℕ) → IsStanding t → IsStanding (on_port t id (with_address a value))
+address_put t id address.Trtype value h = port_put t id (with_address address.Trtype value) (λ p. refl) (λ p. refl) (λ p one. one) h
+address_put t id address.Adrfam value h = port_put t id (with_address address.Adrfam value) (λ p. refl) (λ p. refl) (λ p one. one) h
+address_put t id address.Traddr value h = port_put t id (with_address address.Traddr value) (λ p. refl) (λ p. refl) (λ p one. one) h
+address_put t id address.Trsvcid value h = port_put t id (with_address address.Trsvcid value) (λ p. refl) (λ p. refl) (λ p one. one) h
+address_put t id address.Treq value h = port_put t id (with_address address.Treq value) (λ p. refl) (λ p. refl) (λ p one. one) h
 
-keeps_address : (t : Tree) (id : ℕ) (was : PortRow → List ℕ) (put : List ℕ → PortPut) (good : Bool) (value : List ℕ) → IsStanding t → Keeps (set_address t id was put good value)
-keeps_address t id was put good value h = holds_if_port _ _ (λ p e. holds_row _ _ _ _ (λ _. holds_end _ _ _ (λ _. holds_unless _ t _ _ h (λ _. address_put t id (put value) h))))
+keeps_address : (t : Tree) (id : ℕ) (a : Address) (good : Bool) (value : List ℕ) → IsStanding t → Keeps (set_address t id a good value)
+keeps_address t id a good value h = holds_if_port _ _ (λ p e. holds_row _ _ _ _ (λ _. holds_end _ _ _ (λ _. holds_unless _ t _ _ h (λ _. address_put t id a value h))))
 
 k_set_of_port : (t : Tree) (id : ℕ) (a : Attr) (value : List ℕ) → IsStanding t → Keeps (set_of_port t id a value)
 unfolding set_addr_trtype set_addr_adrfam set_addr_treq set_addr_traddr set_addr_trsvcid
-k_set_of_port t id attr.Trtype value h = keeps_address t id (λ (p : PortRow). p.trtype) port.Trtype (one_of value (codes "loop" ∷ codes "tcp" ∷ codes "rdma" ∷ codes "fc" ∷ [])) value h
-k_set_of_port t id attr.Adrfam value h = keeps_address t id (λ (p : PortRow). p.adrfam) port.Adrfam ((length value == 0) || one_of value (codes "ipv4" ∷ codes "ipv6" ∷ codes "ib" ∷ codes "fc" ∷ codes "loop" ∷ codes "pcie" ∷ [])) value h
-k_set_of_port t id attr.Treq value h = keeps_address t id (λ (p : PortRow). p.treq) port.Treq (one_of value (codes "not specified" ∷ codes "required" ∷ codes "not required" ∷ [])) value h
-k_set_of_port t id attr.Traddr value h = keeps_address t id (λ (p : PortRow). p.traddr) port.Traddr (not (nat_lt TRADDR_LEN (length value))) value h
-k_set_of_port t id attr.Trsvcid value h = keeps_address t id (λ (p : PortRow). p.trsvcid) port.Trsvcid (not (nat_lt TRSVCID_LEN (length value))) value h
+k_set_of_port t id attr.Trtype value h = keeps_address t id address.Trtype _ value h
+k_set_of_port t id attr.Adrfam value h = keeps_address t id address.Adrfam _ value h
+k_set_of_port t id attr.Treq value h = keeps_address t id address.Treq _ value h
+k_set_of_port t id attr.Traddr value h = keeps_address t id address.Traddr _ value h
+k_set_of_port t id attr.Trsvcid value h = keeps_address t id address.Trsvcid _ value h
 k_set_of_port t id a value h = refuses _
 
 -- ---- set, on an ANA group

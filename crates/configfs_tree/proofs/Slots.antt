@@ -5,7 +5,6 @@ use Rattle.std.specs.Cmp.{nat_cmp_total}
 use Rattle.std.specs.Ordering.{nat_cmp}
 use Rattle.std.specs.FinMap as map
 use Rattle.std.specs.FinMap.{FinMap, nat_cmp-IsAntisymmetric}
-use Rattle.configfs_tree.specs.Nqns.{name_order}
 use Rattle.configfs_tree.specs.Maps.{update_at}
 use Rattle.configfs_tree.specs.Rows.{put_in, fresh_namespace}
 use Rattle.configfs_tree.specs.Subsystems.{put_namespace, add_namespace, remove_namespace}
@@ -17,15 +16,9 @@ use Rattle.configfs_tree.specs.declared.subsystems.SubsystemRow.{SubsystemRow}
 use Rattle.configfs_tree.specs.declared.ports.PortRow.{PortRow}
 use Rattle.configfs_tree.proofs.Gets.{some_same, none_some, cases_key, get-insert_at, get-insert_beside, get-remove_at, get-remove_beside, get-update_at, get-update_beside, was_at}
 use Rattle.configfs_tree.proofs.Held.{here, Slot, is_slot, no_slot, cases_slot}
-use Rattle.configfs_tree.proofs.Kept.{placed_others, placed_here, placed_was}
+use Rattle.configfs_tree.proofs.Kept.{Rows, Spaces, placed_others, placed_here, placed_was}
 
-abbrev Rows : Type 0
-Rows = FinMap name_order SubsystemRow
-
-abbrev Spaces : Type 0
-Spaces = FinMap nat_cmp NamespaceRow
-
-abbrev Ports : Type 0
+abbrev pub Ports : Type 0
 Ports = FinMap nat_cmp PortRow
 
 -- ---- one namespace changes

@@ -20,7 +20,8 @@ use Rattle.configfs_tree.specs.declared.tree.Settings.{Settings}
 use Rattle.configfs_tree.specs.declared.tree.Tree.{Tree}
 use Rattle.configfs_tree.proofs.Gets.{some_same, none_some, get-insert_at, get-remove_at, get-update_at}
 use Rattle.configfs_tree.proofs.Held.{here, Slot, is_slot, no_slot, cases_slot}
-use Rattle.configfs_tree.proofs.Slots.{Rows, Ports, OneSlot, slot_look, slot_both, same_ports, other_ports}
+use Rattle.configfs_tree.proofs.Kept.{Rows}
+use Rattle.configfs_tree.proofs.Slots.{Ports, OneSlot, slot_look, slot_both, same_ports, other_ports}
 
 -- ---- maps that differ
 module _ {K X : Type 0} {R : K → K → Ordering} (o : IsTotalOrder R) (same : IsAntisymmetric R) where
@@ -106,8 +107,8 @@ slot_tells t w sub nsid o v touched one ne on groups = tells_touching t (with_ro
     (λ id p q e f. same_ports t.settings.ports id p q e f) refl
 
 not_itself : (b : Bool) → not b ≡ b → ⊥
-not_itself true e = both_ways true e refl
-not_itself false e = both_ways false refl e
+not_itself true e = both_ways false refl e
+not_itself false e = both_ways true e refl
 
 -- a namespace gets enabled, or begins to drain
 pub turn_tells : (t : Tree) (w : Rows) (disks : List DiskRow) (sub : List ℕ) (nsid at : ℕ) (n : NamespaceRow) (drains : Bool) → n.enabled ≡ drains → OneSlot t.settings.subsystems w sub nsid (Some (here at n)) (Some (here at (put_in (Enabled (not drains)) n))) → Tells t (with_rows t w disks t.settings.ana_count) (namespace_change at nsid drains)

@@ -12,7 +12,7 @@ use Rattle.configfs_tree.specs.Nqns.{name_order}
 use Rattle.configfs_tree.specs.Maps.{update_at}
 use Rattle.configfs_tree.specs.Rows.{put_in, fresh_namespace}
 use Rattle.configfs_tree.specs.Subsystems.{fresh_subsystem, put_in_subsystem, put_allowed, put_namespace}
-use Rattle.configfs_tree.specs.Ports.{fresh_port, put_in_port, put_link, put_group, remove_group}
+use Rattle.configfs_tree.specs.Ports.{fresh_port, address_of, with_address, put_link, put_group, remove_group}
 use Rattle.configfs_tree.specs.Places.{lowest_free}
 use Rattle.configfs_tree.specs.Holders.{disk_of, holder_of, hold, holds_path, has_disk, is_held, path_or_empty}
 use Rattle.configfs_tree.specs.Outcome.{Outcome, unless_stands, on_subsystem, on_port}
@@ -52,8 +52,8 @@ use Rattle.configfs_tree.specs.declared.namespaces.NamespacePut.TheVariants.{Pat
 use Rattle.configfs_tree.specs.declared.subsystems.SubsystemPut.{SubsystemPut}
 use Rattle.configfs_tree.specs.declared.subsystems.SubsystemPut.TheVariants.{AllowAnyHost, Serial, ModelName}
 use Rattle.configfs_tree.specs.declared.ports.AnaState.TheVariants as state
-use Rattle.configfs_tree.specs.declared.ports.PortPut.{PortPut}
-use Rattle.configfs_tree.specs.declared.ports.PortPut.TheVariants as port
+use Rattle.configfs_tree.specs.declared.ports.Address.{Address}
+use Rattle.configfs_tree.specs.declared.ports.Address.TheVariants as address
 use Rattle.configfs_tree.specs.declared.edits.Attr.{Attr}
 use Rattle.configfs_tree.specs.declared.edits.Attr.TheVariants as attr
 use Rattle.configfs_tree.specs.declared.edits.Folder.{Folder}
@@ -262,20 +262,34 @@ u_set_of_namespace t sub nsid attr.Enable value = u_set_enable t sub nsid value
 u_set_of_namespace t sub nsid a value = refuses _
 
 -- ---- set, on a port
-u_address : (t : Tree) (id : ℕ) (was : PortRow → List ℕ) (put : List ℕ → PortPut) (good : Bool) (value : List ℕ) → ((p : PortRow) → was (put_in_port (put value) p) ≡ value) → ((p : PortRow) → (put_in_port (put value) p).groups ≡ p.groups) → Told t (set_address t id was put good value)
-u_address t id was put good value is groups = holds_if_port _ _ (λ p e. holds_row _ _ _ _ (λ _. holds_end _ _ _ (λ _. holds_unless _ t _ _ (tells_nothing t) (λ other.
+put_address : (a : Address) (value : List ℕ) (p : PortRow) → address_of a (with_address a value p) ≡ value
+put_address address.Trtype value p = refl
+put_address address.Adrfam value p = refl
+put_address address.Traddr value p = refl
+put_address address.Trsvcid value p = refl
+put_address address.Treq value p = refl
+
+address_groups : (a : Address) (value : List ℕ) (p : PortRow) → (with_address a value p).groups ≡ p.groups
+address_groups address.Trtype value p = refl
+address_groups address.Adrfam value p = refl
+address_groups address.Traddr value p = refl
+address_groups address.Trsvcid value p = refl
+address_groups address.Treq value p = refl
+
+u_address : (t : Tree) (id : ℕ) (a : Address) (good : Bool) (value : List ℕ) → Told t (set_address t id a good value)
+u_address t id a good value = holds_if_port _ _ (λ p e. holds_row _ _ _ _ (λ _. holds_end _ _ _ (λ _. holds_unless _ t _ _ (tells_nothing t) (λ other.
     let m = t.settings.ports in
-    ports_tell t (update_at m id (put_in_port (put value))) (touches.Port p.at)
-    (update_differs nat_cmp_total nat_cmp-IsAntisymmetric m id (put_in_port (put value)) p e (λ same. other_bytes (was p) value other (sym (ap was same) ∙ is p)))
-    (put_ports m id (put_in_port (put value)) groups)))))
+    ports_tell t (update_at m id (with_address a value)) (touches.Port p.at)
+    (update_differs nat_cmp_total nat_cmp-IsAntisymmetric m id (with_address a value) p e (λ same. other_bytes (address_of a p) value other (sym (ap (address_of a) same) ∙ put_address a value p)))
+    (put_ports m id (with_address a value) (address_groups a value))))))
 
 u_set_of_port : (t : Tree) (id : ℕ) (a : Attr) (value : List ℕ) → Told t (set_of_port t id a value)
 unfolding set_addr_trtype set_addr_adrfam set_addr_treq set_addr_traddr set_addr_trsvcid
-u_set_of_port t id attr.Trtype value = u_address t id (λ (p : PortRow). p.trtype) port.Trtype (one_of value (codes "loop" ∷ codes "tcp" ∷ codes "rdma" ∷ codes "fc" ∷ [])) value (λ p. refl) (λ p. refl)
-u_set_of_port t id attr.Adrfam value = u_address t id (λ (p : PortRow). p.adrfam) port.Adrfam ((length value == 0) || one_of value (codes "ipv4" ∷ codes "ipv6" ∷ codes "ib" ∷ codes "fc" ∷ codes "loop" ∷ codes "pcie" ∷ [])) value (λ p. refl) (λ p. refl)
-u_set_of_port t id attr.Treq value = u_address t id (λ (p : PortRow). p.treq) port.Treq (one_of value (codes "not specified" ∷ codes "required" ∷ codes "not required" ∷ [])) value (λ p. refl) (λ p. refl)
-u_set_of_port t id attr.Traddr value = u_address t id (λ (p : PortRow). p.traddr) port.Traddr (not (nat_lt TRADDR_LEN (length value))) value (λ p. refl) (λ p. refl)
-u_set_of_port t id attr.Trsvcid value = u_address t id (λ (p : PortRow). p.trsvcid) port.Trsvcid (not (nat_lt TRSVCID_LEN (length value))) value (λ p. refl) (λ p. refl)
+u_set_of_port t id attr.Trtype value = u_address t id address.Trtype _ value
+u_set_of_port t id attr.Adrfam value = u_address t id address.Adrfam _ value
+u_set_of_port t id attr.Treq value = u_address t id address.Treq _ value
+u_set_of_port t id attr.Traddr value = u_address t id address.Traddr _ value
+u_set_of_port t id attr.Trsvcid value = u_address t id address.Trsvcid _ value
 u_set_of_port t id a value = refuses _
 
 -- ---- set, on an ANA group

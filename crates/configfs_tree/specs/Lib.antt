@@ -1,5 +1,6 @@
 pub mod Asked
 pub mod Drained
+pub mod Errnos
 pub mod Gives
 pub mod Holders
 pub mod Links

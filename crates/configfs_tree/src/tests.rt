@@ -51,14 +51,7 @@ fn told(rt: &impl Abort, alloc: Global, tree: &mut Tree, what: Do) -> &'static s
     match tree.apply_folder(alloc, &e) {
         Ok(_) => "ok",
         Err(Refused::Memory) => "memory",
-        Err(Refused::Errno(Errno::EPERM)) => "EPERM",
-        Err(Refused::Errno(Errno::ENOENT)) => "ENOENT",
-        Err(Refused::Errno(Errno::EACCES)) => "EACCES",
-        Err(Refused::Errno(Errno::EBUSY)) => "EBUSY",
-        Err(Refused::Errno(Errno::EEXIST)) => "EEXIST",
-        Err(Refused::Errno(Errno::EINVAL)) => "EINVAL",
-        Err(Refused::Errno(Errno::ENOTEMPTY)) => "ENOTEMPTY",
-        Err(Refused::Errno(Errno::ENOSPC)) => "ENOSPC",
+        Err(Refused::Errno(errno)) => errno.name(),
     }
 }
 
