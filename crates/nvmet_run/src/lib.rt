@@ -6,7 +6,11 @@
 //! the sequential target, and of which the written records and the summary are the print.
 #![tactic(auto)]
 
+#[cfg(test)]
+mod answer_tests;
 mod files;
+#[cfg(test)]
+mod limit_tests;
 mod output;
 mod report;
 mod run;

@@ -29,38 +29,23 @@ impl Outcome {
 
 const PLAN: &[u8] = b"nvmet-plan 1\nsimple\ndisk /dev/ram0 9 16\nqueue 1 q1 r1\n";
 
-// Runs the words over a plan and a queue file; the calls on files of these numbers fail.
-fn run_words<R: Wait + Threads + Sync>(
-    rt: &R,
-    alloc: Global,
-    words: &[&str],
-    plan: &[u8],
-    q1: &[u8],
-    fails: Vec<u64>,
-) -> Result<Outcome, Fail> {
-    let mut files = MemFiles::new(alloc, fails);
-    files.put("p", plan)?;
-    files.put("q1", q1)?;
-    let mut out = MemSink::new(alloc, 4096, Vec::new(alloc))?;
-    let mut owned = Vec::new(alloc);
-    for word in words {
-        owned.push(String::from_str(alloc, word)?)?;
-    }
-    let status = command(rt, alloc, &owned, &mut files, &mut out, &OpenGate);
-    Ok(Outcome { status, files, out })
-}
-
+// Runs a plan over a queue file.
 fn run<R: Wait + Threads + Sync>(
     rt: &R,
     alloc: Global,
     plan: &[u8],
     q1: &[u8],
 ) -> Result<Outcome, Fail> {
-    run_words(rt, alloc, &["run", "p"], plan, q1, Vec::new(alloc))
+    let mut files = MemFiles::new(alloc, Vec::new(alloc));
+    files.put("p", plan)?;
+    files.put("q1", q1)?;
+    let mut out = MemSink::new(alloc, 4096, Vec::new(alloc))?;
+    let status = run_plan(rt, alloc, "p", &mut files, &mut out, &OpenGate);
+    Ok(Outcome { status, files, out })
 }
 
 // A submission entry with flags 40h.
-fn entry(opcode: u8, cid: u16, nsid: u32, slba: u64, nlb: u16, sgl_len: u32) -> Sqe {
+pub(crate) fn entry(opcode: u8, cid: u16, nsid: u32, slba: u64, nlb: u16, sgl_len: u32) -> Sqe {
     Sqe {
         opcode,
         flags: 0x40,
@@ -201,55 +186,5 @@ fn a_short_write_and_a_fabrics_command(rt: HostRuntime) -> Result<(), Fail> {
     want.extend_from_slice(&record(0, 1, 1, 0, 3, 0x801e))?;
     want.extend_from_slice(&record(1, 4, 1, 1, 4, 0x8002))?;
     assert_eq!(rt; run.records(), want.as_slice());
-    Ok(())
-}
-
-#[test]
-fn every_other_status_has_its_line(rt: HostRuntime) -> Result<(), Fail> {
-    let usage = "usage: nvmetd run PLAN | check PLAN | show PLAN | gen N NAME\n";
-    for words in [
-        [].as_slice(),
-        &["run"],
-        &["run", "--", "p"],
-        &["run", "-p"],
-        &["run", "p q"],
-        &["run", ""],
-        &["go", "p"],
-        &["gen", "0", "g"],
-    ] {
-        let run = run_words(&rt, rt.alloc(), words, PLAN, b"", Vec::new(rt.alloc()))?;
-        assert_eq!(rt; run.status.code(), 1);
-        assert_eq!(rt; run.text(), usage.as_bytes());
-        assert_eq!(rt; run.files.calls(), 0);
-    }
-    let cut = [0; 66];
-    let long = write_sqe(&entry(0x01, 1, 1, 0, 0, 131_073));
-    let plain = b"nvmet-plan 1\nconfig c\njournal j\n";
-    for (plan, q1, code, line) in [
-        (
-            b"nvmet-plan 1\ndisc x\n".as_slice(),
-            b"".as_slice(),
-            2,
-            "malformed p line 2\n",
-        ),
-        (plain, b"", 2, "malformed p line 4\n"),
-        (PLAN, &cut, 2, "malformed q1 offset 64\n"),
-        (PLAN, &long, 6, "limit q1 data 131073\n"),
-    ] {
-        let run = run(&rt, rt.alloc(), plan, q1)?;
-        assert_eq!(rt; run.status.code(), code, "{line}");
-        assert_eq!(rt; run.text(), line.as_bytes(), "{line}");
-        assert_eq!(rt; run.files.content("r1"), None, "{line}");
-    }
-    for (call, code, line) in [
-        (0, 3, "cannot read p\n"),
-        (1, 3, "cannot read q1\n"),
-        (2, 4, "cannot write r1\n"),
-    ] {
-        let fails = Vec::from_slice(rt.alloc(), &[call])?;
-        let run = run_words(&rt, rt.alloc(), &["run", "p"], PLAN, b"", fails)?;
-        assert_eq!(rt; run.status.code(), code, "{line}");
-        assert_eq!(rt; run.text(), line.as_bytes(), "{line}");
-    }
     Ok(())
 }
