@@ -1,0 +1,108 @@
+use crate::capsule_rows::{CUTS, ROOMS};
+use crate::mutations::{Dice, random_capsules, random_plan};
+use crate::plan_rows::{HEAD, HEADS, NUMBERS, SIMPLE, WORDS};
+use crate::slow_capsules::slow_capsules;
+use crate::slow_plan::first_fault;
+use crate::texts::{Text, told_capsules, told_plan};
+use crate::{capsule_rows, plan_rows};
+use plan_files::{read_capsules, read_plan};
+use std::alloc::Global;
+use std::process::Abort;
+
+// The answer of the reader, which the slow reader has to give too where it is a fault.
+fn plan_answer(rt: &impl Abort, alloc: Global, file: &[u8]) -> Text {
+    let answer = read_plan(alloc, file);
+    let told = told_plan(rt, alloc, &answer);
+    match first_fault(rt, alloc, file) {
+        Some(fault) => assert!(rt; told.bytes == fault.bytes, "another fault"),
+        None => assert!(rt; answer.is_ok(), "no fault"),
+    }
+    told
+}
+
+fn run_plans(rt: &impl Abort, alloc: Global, rows: &[plan_rows::Row]) {
+    for (i, row) in rows.iter().enumerate() {
+        let body = plan_rows::built(rt, alloc, "", row.0);
+        let file = plan_rows::built(rt, alloc, HEAD, row.0);
+        let told = plan_answer(rt, alloc, &file.bytes);
+        if row.1 == "read" {
+            assert!(rt; told.bytes == body.bytes, "row {i}");
+        } else {
+            assert!(rt; told.bytes.as_slice() == row.1.as_bytes(), "row {i}");
+        }
+    }
+}
+
+#[test]
+fn plans(rt: HostRuntime) {
+    let alloc = rt.alloc();
+    for (i, row) in HEADS.iter().enumerate() {
+        let told = plan_answer(&rt, alloc, row.0.as_bytes());
+        assert!(rt; told.bytes.as_slice() == row.1.as_bytes(), "head {i}");
+    }
+    run_plans(&rt, alloc, WORDS);
+    run_plans(&rt, alloc, NUMBERS);
+    run_plans(&rt, alloc, SIMPLE);
+}
+
+// The answer of the reader, which the slow reader has to give too, capsule by capsule.
+fn capsules_answer(rt: &impl Abort, alloc: Global, file: &[u8]) -> Text {
+    let answer = read_capsules(alloc, file);
+    let told = told_capsules(rt, alloc, &answer);
+    let slow = slow_capsules(rt, alloc, file);
+    assert!(rt; told.bytes == slow.told.bytes, "another answer");
+    if let Ok(capsules) = &answer {
+        for (capsule, place) in capsules.iter().zip(slow.places.iter()) {
+            let at = (capsule.data_at as u64, capsule.data_len as u64);
+            assert!(rt; at == (place.0, place.1), "data elsewhere");
+            let fields = (capsule.sqe.opcode as u64, capsule.sqe.sgl_len as u64);
+            assert!(rt; fields == (place.2, place.3), "another entry");
+        }
+    }
+    told
+}
+
+fn run_capsules(rt: &impl Abort, alloc: Global, rows: &[capsule_rows::Row]) {
+    for (i, row) in rows.iter().enumerate() {
+        let file = capsule_rows::built(rt, alloc, row.0);
+        let told = capsules_answer(rt, alloc, &file.bytes);
+        assert!(rt; told.bytes.as_slice() == row.1.as_bytes(), "row {i}");
+    }
+}
+
+#[test]
+fn capsule_files(rt: HostRuntime) {
+    let alloc = rt.alloc();
+    run_capsules(&rt, alloc, CUTS);
+    run_capsules(&rt, alloc, ROOMS);
+}
+
+#[test]
+fn five_thousand_mutated_plans(rt: HostRuntime) {
+    let alloc = rt.alloc();
+    let mut dice = Dice::new(42);
+    let mut read = 0u64;
+    for _ in 0..5_000 {
+        let file = random_plan(&rt, alloc, &mut dice);
+        let told = plan_answer(&rt, alloc, &file);
+        if !told.bytes.starts_with(b"line") && !told.bytes.starts_with(b"limit") {
+            read = read.saturating_add(1);
+        }
+    }
+    assert!(rt; read > 500 && read < 4_500, "{read} read");
+}
+
+#[test]
+fn five_thousand_mutated_capsule_files(rt: HostRuntime) {
+    let alloc = rt.alloc();
+    let mut dice = Dice::new(43);
+    let mut read = 0u64;
+    for _ in 0..5_000 {
+        let file = random_capsules(&rt, alloc, &mut dice);
+        let told = capsules_answer(&rt, alloc, &file);
+        if told.bytes.starts_with(b"capsules") {
+            read = read.saturating_add(1);
+        }
+    }
+    assert!(rt; read > 500 && read < 4_500, "{read} read");
+}
