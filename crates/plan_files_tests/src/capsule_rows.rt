@@ -75,29 +75,56 @@ pub(crate) const CUTS: &[Row] = &[
     (&[Letters(63)], "offset 0"),
     (&[Entries(1, FLUSH, 0)], "capsules 1 room 256 quota 9"),
     (&[Entries(1, FLUSH, 0), Letters(1)], "offset 64"),
-    (&[Entries(1, FLUSH, 0), Entries(1, READ, 512), Letters(2)], "offset 128"),
+    (
+        &[Entries(1, FLUSH, 0), Entries(1, READ, 512), Letters(2)],
+        "offset 128",
+    ),
     (&[Entries(1, READ, 512), Letters(63)], "offset 64"),
     (&[Entries(1, WRITE, 4096), Letters(100)], "offset 0"),
     (&[Entries(1, WRITE, 4096), Letters(4095)], "offset 0"),
-    (&[Entries(1, WRITE, 4096), Letters(4096)], "capsules 1 room 256 quota 9"),
+    (
+        &[Entries(1, WRITE, 4096), Letters(4096)],
+        "capsules 1 room 256 quota 9",
+    ),
     (&[Entries(1, WRITE, 4096), Letters(4097)], "offset 4160"),
     (&[Entries(1, WRITE, 0)], "capsules 1 room 256 quota 9"),
     (&[Entries(1, WRITE, 1)], "offset 0"),
-    (&[Entries(2, FLUSH, 9), Entries(1, WRITE, 512), Letters(511)], "offset 128"),
-    (&[Entries(1, WRITE, 131_072), Letters(131_072)], "capsules 1 room 256 quota 9"),
+    (
+        &[Entries(2, FLUSH, 9), Entries(1, WRITE, 512), Letters(511)],
+        "offset 128",
+    ),
+    (
+        &[Entries(1, WRITE, 131_072), Letters(131_072)],
+        "capsules 1 room 256 quota 9",
+    ),
     (&[Entries(1, WRITE, 131_072), Letters(131_071)], "offset 0"),
-    (&[Entries(1, WRITE, 131_073), Letters(131_073)], "limit data 131073"),
+    (
+        &[Entries(1, WRITE, 131_073), Letters(131_073)],
+        "limit data 131073",
+    ),
     (&[Entries(1, WRITE, 131_073)], "limit data 131073"),
     (&[Entries(1, WRITE, 0xffff_ffff)], "limit data 4294967295"),
-    (&[Entries(1, FLUSH, 0), Entries(1, WRITE, 131_073)], "limit data 131073"),
-    (&[Letters(63), Entries(1, WRITE, 131_073)], "limit data 1633771873"),
+    (
+        &[Entries(1, FLUSH, 0), Entries(1, WRITE, 131_073)],
+        "limit data 131073",
+    ),
+    (
+        &[Letters(63), Entries(1, WRITE, 131_073)],
+        "limit data 1633771873",
+    ),
     (&[Entries(1, WRITE, 1), Letters(64)], "offset 65"),
-    (&[Entries(1, VENDOR, 3), Letters(3)], "capsules 1 room 256 quota 9"),
+    (
+        &[Entries(1, VENDOR, 3), Letters(3)],
+        "capsules 1 room 256 quota 9",
+    ),
     (&[Entries(1, VENDOR, 3), Letters(2)], "offset 0"),
     (&[Entries(1, BOTH, 131_073)], "capsules 1 room 256 quota 9"),
     (&[Entries(1, BOTH, 512), Letters(1)], "offset 64"),
     (&[Fabrics(0, 1024)], "capsules 1 room 256 quota 9"),
-    (&[Fabrics(1, 1024), Letters(1024)], "capsules 1 room 256 quota 9"),
+    (
+        &[Fabrics(1, 1024), Letters(1024)],
+        "capsules 1 room 256 quota 9",
+    ),
     (&[Fabrics(1, 1024), Letters(1023)], "offset 0"),
     (&[Fabrics(1, 131_073)], "limit data 131073"),
     (&[Fabrics(2, 1024)], "capsules 1 room 1280 quota 9"),
@@ -107,13 +134,28 @@ pub(crate) const CUTS: &[Row] = &[
 // Room and the number of capsules.
 pub(crate) const ROOMS: &[Row] = &[
     (&[Entries(1, READ, 512)], "capsules 1 room 768 quota 9"),
-    (&[Entries(1, READ, 131_072)], "capsules 1 room 131328 quota 9"),
+    (
+        &[Entries(1, READ, 131_072)],
+        "capsules 1 room 131328 quota 9",
+    ),
     (&[Entries(1, READ, 131_073)], "capsules 1 room 256 quota 9"),
-    (&[Entries(1, READ, 0xffff_ffff)], "capsules 1 room 256 quota 9"),
-    (&[Entries(511, READ, 131_072)], "capsules 511 room 67027008 quota 1539"),
+    (
+        &[Entries(1, READ, 0xffff_ffff)],
+        "capsules 1 room 256 quota 9",
+    ),
+    (
+        &[Entries(511, READ, 131_072)],
+        "capsules 511 room 67027008 quota 1539",
+    ),
     (&[Entries(512, READ, 131_072)], "limit output 67158176"),
-    (&[Entries(512, READ, 131_072), Letters(1)], "limit output 67158176"),
-    (&[Entries(512, READ, 131_072), Entries(1, WRITE, 131_073)], "limit output 67158176"),
+    (
+        &[Entries(512, READ, 131_072), Letters(1)],
+        "limit output 67158176",
+    ),
+    (
+        &[Entries(512, READ, 131_072), Entries(1, WRITE, 131_073)],
+        "limit output 67158176",
+    ),
     (&[Entries(511, READ, 131_072), Letters(63)], "offset 32704"),
     (
         &[Entries(511, READ, 131_072), Entries(1, READ, 81_760)],
@@ -124,20 +166,43 @@ pub(crate) const ROOMS: &[Row] = &[
         "limit output 67108865",
     ),
     (
-        &[Entries(511, READ, 131_072), Entries(1, READ, 81_760), Entries(1, FLUSH, 0)],
+        &[
+            Entries(511, READ, 131_072),
+            Entries(1, READ, 81_760),
+            Entries(1, FLUSH, 0),
+        ],
         "limit output 67108960",
     ),
     (
-        &[Entries(511, READ, 131_072), Entries(1, READ, 81_760), Entries(1, WRITE, 2), Letters(1)],
+        &[
+            Entries(511, READ, 131_072),
+            Entries(1, READ, 81_760),
+            Entries(1, WRITE, 2),
+            Letters(1),
+        ],
         "offset 32768",
     ),
     (
-        &[Entries(511, READ, 131_072), Entries(1, READ, 81_760), Entries(1, WRITE, 2), Letters(2)],
+        &[
+            Entries(511, READ, 131_072),
+            Entries(1, READ, 81_760),
+            Entries(1, WRITE, 2),
+            Letters(2),
+        ],
         "limit output 67108960",
     ),
-    (&[Entries(65_536, FLUSH, 0)], "capsules 65536 room 6291616 quota 196614"),
+    (
+        &[Entries(65_536, FLUSH, 0)],
+        "capsules 65536 room 6291616 quota 196614",
+    ),
     (&[Entries(65_537, FLUSH, 0)], "limit capsules 65537"),
-    (&[Entries(65_536, FLUSH, 0), Letters(1)], "limit capsules 65537"),
-    (&[Entries(65_536, FLUSH, 0), Entries(1, WRITE, 131_073)], "limit capsules 65537"),
+    (
+        &[Entries(65_536, FLUSH, 0), Letters(1)],
+        "limit capsules 65537",
+    ),
+    (
+        &[Entries(65_536, FLUSH, 0), Entries(1, WRITE, 131_073)],
+        "limit capsules 65537",
+    ),
     (&[Entries(65_535, FLUSH, 0), Letters(63)], "offset 4194240"),
 ];

@@ -24,7 +24,9 @@ fn byte(file: &[u8], at: u64, after: u64) -> u64 {
 fn sgl_len(file: &[u8], at: u64) -> u64 {
     let mut len = 0u64;
     for after in [35, 34, 33, 32] {
-        len = len.saturating_mul(256).saturating_add(byte(file, at, after));
+        len = len
+            .saturating_mul(256)
+            .saturating_add(byte(file, at, after));
     }
     len
 }

@@ -53,7 +53,9 @@ fn number(word: &[u8]) -> Option<u64> {
         if i == 0 && *byte == 48 && word.len() > 1 {
             return None;
         }
-        value = value.saturating_mul(10).saturating_add((*byte as u64).saturating_sub(48));
+        value = value
+            .saturating_mul(10)
+            .saturating_add((*byte as u64).saturating_sub(48));
     }
     Some(value)
 }

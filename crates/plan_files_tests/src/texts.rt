@@ -94,7 +94,12 @@ fn put_plan(rt: &impl Abort, out: &mut Text, plan: &Plan) {
     }
     for queue in plan.queues.as_slice() {
         let port = queue.port as u64;
-        out.queue(rt, port, queue.capsules.as_bytes(), queue.responses.as_bytes());
+        out.queue(
+            rt,
+            port,
+            queue.capsules.as_bytes(),
+            queue.responses.as_bytes(),
+        );
     }
 }
 
