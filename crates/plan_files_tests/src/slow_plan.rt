@@ -208,14 +208,31 @@ impl Said {
     }
 }
 
-fn line_fault(rt: &impl Abort, alloc: Global, line: u64) -> Option<Text> {
+fn line_fault(rt: &impl Abort, alloc: Global, line: u64) -> Text {
     let mut fault = Text::new(alloc);
     fault.place(rt, b"line", line);
-    Some(fault)
+    fault
 }
 
-// The first fault of a plan, as a text.
-pub(crate) fn first_fault(rt: &impl Abort, alloc: Global, file: &[u8]) -> Option<Text> {
+// What a good line begins with, by kind, in the order in which plans are told.
+const KINDS: [&str; 6] = ["simple", "disk", "config", "script", "journal", "queue"];
+
+// The good lines, kind after kind.
+fn told(rt: &impl Abort, alloc: Global, lines: &[Vec<u8>]) -> Text {
+    let mut out = Text::new(alloc);
+    for kind in KINDS {
+        for line in lines.iter().skip(1) {
+            if line.starts_with(kind.as_bytes()) {
+                out.put(rt, line);
+                out.put(rt, b"\n");
+            }
+        }
+    }
+    out
+}
+
+// The first fault of a plan, or the lines that spell it.
+pub(crate) fn slow_plan(rt: &impl Abort, alloc: Global, file: &[u8]) -> Text {
     let mut lines = pieces(rt, alloc, file, 10);
     if lines.last().is_some_and(|l| l.is_empty()) {
         let _ = lines.pop();
@@ -238,11 +255,11 @@ pub(crate) fn first_fault(rt: &impl Abort, alloc: Global, file: &[u8]) -> Option
             return line_fault(rt, alloc, count);
         }
         if !said.fault.bytes.is_empty() {
-            return Some(said.fault);
+            return said.fault;
         }
     }
     if count == 0 || said.lacks() {
         return line_fault(rt, alloc, count.saturating_add(1));
     }
-    None
+    told(rt, alloc, &lines)
 }

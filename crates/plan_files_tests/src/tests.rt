@@ -2,21 +2,19 @@ use crate::capsule_rows::{CUTS, ROOMS};
 use crate::mutations::{Dice, random_capsules, random_plan};
 use crate::plan_rows::{HEAD, HEADS, NUMBERS, SIMPLE, WORDS};
 use crate::slow_capsules::slow_capsules;
-use crate::slow_plan::first_fault;
+use crate::slow_plan::slow_plan;
 use crate::texts::{Text, told_capsules, told_plan};
 use crate::{capsule_rows, plan_rows};
 use plan_files::{read_capsules, read_plan};
 use std::alloc::Global;
 use std::process::Abort;
 
-// The answer of the reader, which the slow reader has to give too where it is a fault.
+// The answer of the reader, which the slow reader has to give too.
 fn plan_answer(rt: &impl Abort, alloc: Global, file: &[u8]) -> Text {
     let answer = read_plan(alloc, file);
     let told = told_plan(rt, alloc, &answer);
-    match first_fault(rt, alloc, file) {
-        Some(fault) => assert!(rt; told.bytes == fault.bytes, "another fault"),
-        None => assert!(rt; answer.is_ok(), "no fault"),
-    }
+    let slow = slow_plan(rt, alloc, file);
+    assert!(rt; told.bytes == slow.bytes, "another answer");
     told
 }
 
