@@ -68,6 +68,17 @@ pub(crate) fn built(rt: &impl Abort, alloc: Global, pieces: &[Piece]) -> Text {
     out
 }
 
+// A file of a Flush, a Write with its data and a Read, and where each of its capsules begins and
+// the last one ends.
+pub(crate) const THREE: &[Piece] = &[
+    Entries(1, FLUSH, 0),
+    Entries(1, WRITE, 5),
+    Letters(5),
+    Entries(1, READ, 9),
+];
+
+pub(crate) const ENDS: &[usize] = &[0, 64, 133, 197];
+
 // Cuts, data and their limit.
 pub(crate) const CUTS: &[Row] = &[
     (&[], "capsules 0 room 160 quota 6"),

@@ -1,4 +1,4 @@
-use crate::capsule_rows::{CUTS, ROOMS};
+use crate::capsule_rows::{CUTS, ENDS, ROOMS, THREE};
 use crate::mutations::{Dice, random_capsules, random_plan};
 use crate::plan_rows::{HEAD, HEADS, NUMBERS, SIMPLE, WORDS};
 use crate::slow_capsules::slow_capsules;
@@ -73,6 +73,37 @@ fn capsule_files(rt: HostRuntime) {
     let alloc = rt.alloc();
     run_capsules(&rt, alloc, CUTS);
     run_capsules(&rt, alloc, ROOMS);
+}
+
+// Whether a file of so many bytes is whole, and the place of the capsule that is cut otherwise.
+fn cut_of(bytes: usize) -> (bool, usize) {
+    let mut begins = 0;
+    for end in ENDS {
+        if *end <= bytes {
+            begins = *end;
+        }
+    }
+    (begins == bytes, begins)
+}
+
+#[test]
+fn a_capsule_file_cut_at_each_place(rt: HostRuntime) {
+    let alloc = rt.alloc();
+    let whole = capsule_rows::built(&rt, alloc, THREE);
+    assert!(rt; whole.bytes.len() == 197);
+    for n in 0..198 {
+        let file = whole.bytes.get(..n).expect(&rt, "so many bytes");
+        let told = capsules_answer(&rt, alloc, file);
+        let (is_whole, begins) = cut_of(n);
+        let mut want = Text::new(alloc);
+        want.place(&rt, b"offset", begins as u64);
+        let as_wanted = told.bytes == want.bytes;
+        assert!(rt; as_wanted == !is_whole, "cut at {n}");
+        assert!(rt;
+            told.bytes.starts_with(b"capsules") == is_whole,
+            "cut at {n}"
+        );
+    }
 }
 
 #[test]
