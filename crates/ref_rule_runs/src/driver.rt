@@ -14,7 +14,13 @@ pub fn opened(rt: &impl Abort, alloc: Global) -> Core {
     }
 }
 
-/// The answer of the step, or none where it isn't allowed.
+// The answer of the step, which is allowed.
+fn taken_again(rt: &impl Abort, alloc: Global, core: &mut Core, seat: u32, kind: &Kind) -> Answer {
+    assert!(rt; allowed(core, seat, kind), "the step is still allowed");
+    step(alloc, core, seat, kind).expect(rt, "memory")
+}
+
+/// The answer of the step, or none where it isn't allowed. Where memory is refused once, the step is taken again.
 pub fn tried(
     rt: &impl Abort,
     alloc: Global,
@@ -25,12 +31,14 @@ pub fn tried(
     if !allowed(core, seat, kind) {
         return None;
     }
-    Some(step(alloc, core, seat, kind).expect(rt, "memory"))
+    if let Ok(answer) = step(alloc, core, seat, kind) {
+        return Some(answer);
+    }
+    Some(taken_again(rt, alloc, core, seat, kind))
 }
 
-/// The same. Where memory is refused once, the core is as before, and the
-/// step is taken again.
-pub fn tried_again(
+/// The same. Where memory is refused, the core is as before.
+pub fn tried_with_care(
     rt: &impl Abort,
     alloc: Global,
     core: &mut Core,
@@ -44,10 +52,7 @@ pub fn tried_again(
     if let Ok(answer) = step(alloc, core, seat, kind) {
         return Some(answer);
     }
-    assert!(rt;
-        fingerprint(core.state()) == before,
-        "refused memory changes nothing"
-    );
-    assert!(rt; allowed(core, seat, kind), "the step is still allowed");
-    Some(step(alloc, core, seat, kind).expect(rt, "memory"))
+    let after = fingerprint(core.state());
+    assert!(rt; after == before, "refused memory changes nothing");
+    Some(taken_again(rt, alloc, core, seat, kind))
 }

@@ -20,6 +20,13 @@ const TAKEN: [u32; 24] = [
     492, 150, 388, 523,
 ];
 
+// One of the numbers below `len`, or 0.
+fn index(dice: &mut Pcg32, len: usize) -> usize {
+    let word = dice.next_word() as usize;
+    if len == 0 { 0 } else { word % len }
+}
+
+// One of the numbers below `sides`, or 0.
 fn roll(dice: &mut Pcg32, sides: u32) -> u32 {
     let word = dice.next_word();
     if sides == 0 { 0 } else { word % sides }
@@ -42,7 +49,7 @@ fn drawn_call(dice: &mut Pcg32, caller: u32, number: u32) -> Tag {
 
 // The Execute of one of the holds, and a slot of its disk.
 fn execute(dice: &mut Pcg32, view: &View) -> Kind {
-    let n = roll(dice, view.holds.len() as u32) as usize;
+    let n = index(dice, view.holds.len());
     let extent = roll(dice, 8);
     match view.holds.as_slice().get(n) {
         Some(h) => Kind::PlaceExecute {
@@ -75,12 +82,14 @@ fn delta(s: &State, disk: u32) -> u64 {
 
 // A part that isn't spent, or seat 0, which is never joined.
 fn loose_part(dice: &mut Pcg32, s: &State) -> u32 {
-    let from = roll(dice, s.views.len() as u32) as usize;
-    let rest = s.views.as_slice().iter().enumerate().skip(from);
-    for (i, view) in rest {
-        if matches!(view.role, Role::Part) {
-            return i as u32;
+    let mut left = index(dice, s.views.len());
+    let mut part: u32 = 0;
+    for view in s.views.as_slice() {
+        if left == 0 && matches!(view.role, Role::Part) {
+            return part;
         }
+        left = left.saturating_sub(1);
+        part = part.wrapping_add(1);
     }
     0
 }
@@ -178,7 +187,7 @@ fn add(dice: &mut Pcg32, view: &View) -> Kind {
 
 // The slot of one of the turns that are kept, or any.
 fn kept_slot(dice: &mut Pcg32, view: &View) -> u32 {
-    let n = roll(dice, view.turns.len() as u32) as usize;
+    let n = index(dice, view.turns.len());
     match view.turns.as_slice().get(n) {
         Some(turn) => turn.slot,
         None => roll(dice, 16),

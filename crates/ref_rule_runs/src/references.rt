@@ -75,25 +75,27 @@ pub fn split_counts_balance(s: &State) -> bool {
     let gets = entries(s, EntryTest::Got) as u64;
     let standing = holds(s, HoldTest::Any) as u64;
     let puts = gets.wrapping_sub(standing);
-    let pairs = s.disks.as_slice().iter().zip(s.editor.drains.as_slice());
-    for (d, (disk, drain)) in pairs.enumerate() {
-        let on = holds(s, HoldTest::On(d as u32)) as u64;
+    let mut d: u32 = 0;
+    for (disk, drain) in s.disks.as_slice().iter().zip(s.editor.drains.as_slice()) {
+        let on = holds(s, HoldTest::On(d)) as u64;
         let within = are_within(&disk.own, s.seats, gets, puts)
             && are_within(&drain.bases, s.seats, gets, puts);
         if !within || !split_count(disk, drain, on, gets, puts) {
             return false;
         }
+        d = d.wrapping_add(1);
     }
     standing <= gets && s.disks.len() == s.editor.drains.len() && holds_of_one(s)
 }
 
 /// After the fold the shared count is the number of holds.
 pub fn folded_counts_exact(s: &State) -> bool {
-    let pairs = s.disks.as_slice().iter().zip(s.editor.drains.as_slice());
-    for (d, (disk, drain)) in pairs.enumerate() {
-        if !folded_count(disk, drain, holds(s, HoldTest::On(d as u32)) as u64) {
+    let mut d: u32 = 0;
+    for (disk, drain) in s.disks.as_slice().iter().zip(s.editor.drains.as_slice()) {
+        if !folded_count(disk, drain, holds(s, HoldTest::On(d)) as u64) {
             return false;
         }
+        d = d.wrapping_add(1);
     }
     true
 }
@@ -193,11 +195,13 @@ fn shown_to(s: &State, disk: u32) -> bool {
 
 /// What the last serial shows is live; what a section shows is live, or killed with that section awaited.
 pub fn shown_is_live(s: &State) -> bool {
-    for (d, drain) in s.editor.drains.as_slice().iter().enumerate() {
+    let mut disk: u32 = 0;
+    for drain in s.editor.drains.as_slice() {
         let live = matches!(drain.phase, Phase::Live);
-        if (shows(s, s.serial, d as u32) && !live) || !shown_to(s, d as u32) {
+        if (shows(s, s.serial, disk) && !live) || !shown_to(s, disk) {
             return false;
         }
+        disk = disk.wrapping_add(1);
     }
     true
 }

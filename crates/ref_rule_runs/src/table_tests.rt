@@ -1,5 +1,5 @@
 //! Tables of steps, each with the answer that it must give, or none where it must not be allowed.
-use crate::driver::{opened, tried_again};
+use crate::driver::{opened, tried_with_care};
 use crate::soundness::first_broken;
 use ref_rule::{Answer, Kind, Tag, Take};
 use std::alloc::Global;
@@ -385,7 +385,7 @@ fn gives_answers(rt: &impl Abort, alloc: Global, rows: &[Row]) {
     let mut core = opened(rt, alloc);
     for (i, row) in rows.iter().enumerate() {
         let (seat, kind, want) = *row;
-        let answer = tried_again(rt, alloc, &mut core, seat, &kind);
+        let answer = tried_with_care(rt, alloc, &mut core, seat, &kind);
         assert_eq!(rt; answer, want, "row {i}");
         assert_eq!(rt; first_broken(core.state()), None, "row {i}");
     }
