@@ -3,8 +3,8 @@ use Rattle.std.proofs.Common.{◌≡◌, ℕ, suc, ◌+◌, ◌<◌, ◌≤◌, 
 use Rattle.std.specs.List.{position_or_len, list_any}
 use Rattle.std.specs.Prelude.{nat_lt}
 use Rattle.std.proofs.lemmas.Bool.Decides.{nat_tests}
-use Rattle.ref_rule.specs.Steps.{first, without, change, Some_where}
-use Rattle.ref_rule.proofs.Lists.{some_is}
+use Rattle.ref_state.specs.Steps.{first, without, change, Some_where}
+use Rattle.ref_state.proofs.Lists.{some_is}
 
 module _ {A : Type 0} (p : A → Bool) where
   -- where one passes, its index is the number of those before it

@@ -2,8 +2,8 @@
 use Rattle.std.specs.Prelude.{Bool}
 use Rattle.ref_rule.specs.declared.holds.HoldTest.{HoldTest}
 use Rattle.ref_rule.specs.declared.holds.HoldTest.TheVariants.{On, MayPut, Held}
-use Rattle.ref_rule.specs.declared.state.Hold.{Hold}
-use Rattle.ref_rule.specs.Steps.{is_on, may_put, is_held}
+use Rattle.ref_state.specs.declared.state.Hold.{Hold}
+use Rattle.ref_state.specs.Steps.{is_on, may_put, is_held}
 
 abbrev pub passes : HoldTest → Hold → Bool
 passes (On d) h = is_on d h

@@ -1,6 +1,1 @@
-pub mod State
-pub mod Steps
-pub mod Soundness
-pub mod Runs
-pub mod Lending
 pub mod HoldTests

@@ -1,12 +1,12 @@
 //! The executable core: opened, and taken from step to step.
 ghost use Rattle.std.specs.Prelude.{◌≡◌, ◌*◌, ◌^◌, ◌<◌, ◌≤◌, length, replicate, IfOk, OnErr, OnOk};
-ghost use Rattle.ref_rule.specs.Steps.{IsAllowed, next_core, answer_of};
-ghost use Rattle.ref_rule.specs.Soundness.{IsSound, opened_core, sum_of};
+ghost use Rattle.ref_state.specs.Steps.{IsAllowed, next_core, answer_of};
+ghost use Rattle.ref_state.specs.Soundness.{IsSound, opened_core, sum_of};
 
-use crate::kinds::{Answer, Kind};
 use crate::opening::opened_state;
-use crate::state::State;
 use crate::{parts, references, sections, turns};
+use ref_state::kinds::{Answer, Kind};
+use ref_state::state::State;
 use std::alloc::{AllocError, Global};
 use std::marker::Model;
 
@@ -28,11 +28,11 @@ pub struct Core {
 }
 
 impl Model for Core {
-    ghost use Rattle.ref_rule.specs.declared.state.State.{State as CoreState};
+    ghost use Rattle.ref_state.specs.declared.state.State.{State as CoreState};
 
     ghost Value = { CoreState };
 
-    ghost use Rattle.ref_rule.specs.Soundness.{IsSound};
+    ghost use Rattle.ref_state.specs.Soundness.{IsSound};
 
     ghost view = { λ c. c.state };
 

@@ -1,11 +1,11 @@
 //! Which hold a step takes.
 ghost use Rattle.std.specs.Prelude.{◌≡◌, position, true};
-ghost use Rattle.ref_rule.specs.Steps.{is_least, least, least_place, lesser, place_of, without_least, change};
+ghost use Rattle.ref_state.specs.Steps.{is_least, least, least_place, lesser, place_of, without_least, change};
 ghost use Rattle.ref_rule.specs.HoldTests.{passes};
 
-use crate::items::Items;
-use crate::kinds::Tag;
-use crate::state::Hold;
+use ref_state::items::Items;
+use ref_state::kinds::Tag;
+use ref_state::state::Hold;
 
 /// What a step asks of the hold that it takes.
 #[derive(Clone, Copy)]

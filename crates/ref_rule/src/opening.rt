@@ -1,10 +1,10 @@
 //! The state of an opened core.
 ghost use Rattle.std.specs.Prelude.{◌≡◌, ◌+◌, ◌*◌, ◌^◌, ◌<◌, ◌≤◌, ◌∷◌, [], length, replicate, IfOk};
-ghost use Rattle.ref_rule.specs.Soundness.{opened_core, live_disk, live_drain, seat_view, seats_from, sum_of};
+ghost use Rattle.ref_state.specs.Soundness.{opened_core, live_disk, live_drain, seat_view, seats_from, sum_of};
 
-use crate::items::Items;
 use crate::references::{BIAS, LIVE, ZERO};
-use crate::state::{Disk, Drain, Editor, LoadedMode, Mark, Phase, Role, Section, State, View};
+use ref_state::items::Items;
+use ref_state::state::{Disk, Drain, Editor, LoadedMode, Mark, Phase, Role, Section, State, View};
 use std::alloc::{AllocError, Global};
 
 // The words of live references.

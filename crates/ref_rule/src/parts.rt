@@ -1,12 +1,12 @@
 //! Parts of a seat: what is split off, and what is joined.
 ghost use Rattle.std.specs.Prelude.{◌≡◌, ◌≢◌, ◌+◌, ◌-◌, ◌++◌, ◌^◌, ◌<◌, ◌==◌, if◌then◌else◌, length, position, IfOk, OnErr, OnOk};
-ghost use Rattle.ref_rule.specs.State.{view};
-ghost use Rattle.ref_rule.specs.Steps.{next_core, answer_of, is_at, is_on, first, without, least, listed, after_split, split_part, after_join, spent_view};
+ghost use Rattle.ref_state.specs.State.{view};
+ghost use Rattle.ref_state.specs.Steps.{next_core, answer_of, is_at, is_on, first, without, least, listed, after_split, split_part, after_join, spent_view};
 
 use crate::holds::{HoldTest, hold_index, remove_hold};
-use crate::items::Items;
-use crate::kinds::{Answer, Kind, Take};
-use crate::state::{Entry, Hold, LoadedMode, Role, Section, State, View};
+use ref_state::items::Items;
+use ref_state::kinds::{Answer, Kind, Take};
+use ref_state::state::{Entry, Hold, LoadedMode, Role, Section, State, View};
 use std::alloc::{AllocError, Global};
 
 /// Where the entry of a place stands, if it does.

@@ -1,12 +1,12 @@
 //! Steps on a disk's reference: gets and puts, and what the editor does from the kill to the next life.
 ghost use Rattle.std.specs.Prelude.{◌≡◌, ◌+◌, ◌++◌, ◌%◌, ◌^◌, ◌<◌, length, map, true, false, if◌then◌else◌, IfOk, OnErr, OnOk, slice_index_or, slice_set};
-ghost use Rattle.ref_rule.specs.State.{view, disk as disk_at, no_count, word_of};
-ghost use Rattle.ref_rule.specs.Steps.{next_core, answer_of, count_after, word_after, count_or, hold_of, section_got, loaded_mode, may_put, without_least, after_add};
+ghost use Rattle.ref_state.specs.State.{view, disk as disk_at, no_count, word_of};
+ghost use Rattle.ref_state.specs.Steps.{next_core, answer_of, count_after, word_after, count_or, hold_of, section_got, loaded_mode, may_put, without_least, after_add};
 
 use crate::holds::{HoldTest, remove_hold};
-use crate::items::Items;
-use crate::kinds::{Answer, Kind, Tag};
-use crate::state::{By, Count, Entry, Hold, LoadedMode, Mark, Phase, Section, State, View};
+use ref_state::items::Items;
+use ref_state::kinds::{Answer, Kind, Tag};
+use ref_state::state::{By, Count, Entry, Hold, LoadedMode, Mark, Phase, Section, State, View};
 use std::alloc::{AllocError, Global};
 
 /// 2^63, which stands in the shared count of a live reference.

@@ -1,11 +1,11 @@
 //! Steps of read sections and of the two sides of words.
 ghost use Rattle.std.specs.Prelude.{◌≡◌, ◌+◌, ◌++◌, ◌%◌, ◌^◌, ◌<◌, length, map, IfOk, OnErr, OnOk, slice_index, slice_index_or};
-ghost use Rattle.ref_rule.specs.State.{view, side, conf, looked, own_entry};
-ghost use Rattle.ref_rule.specs.Steps.{next_core, answer_of, serial_of, at_mark, at_drain};
+ghost use Rattle.ref_state.specs.State.{view, side, conf, looked, own_entry};
+ghost use Rattle.ref_state.specs.Steps.{next_core, answer_of, serial_of, at_mark, at_drain};
 
-use crate::items::Items;
-use crate::kinds::{Answer, Kind, Tag};
-use crate::state::{By, Drain, Entry, Mark, Phase, Published, Section, State, View};
+use ref_state::items::Items;
+use ref_state::kinds::{Answer, Kind, Tag};
+use ref_state::state::{By, Drain, Entry, Mark, Phase, Published, Section, State, View};
 use std::alloc::{AllocError, Global};
 
 /// The seat's word is made odd.

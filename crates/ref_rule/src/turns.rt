@@ -1,12 +1,12 @@
 //! Steps on the turns of extents, and on what is held while a turn is.
 ghost use Rattle.std.specs.Prelude.{◌≡◌, ◌+◌, ◌/◌, ◌^◌, ◌<◌, length, position, IfOk, OnErr, OnOk};
-ghost use Rattle.ref_rule.specs.State.{view};
-ghost use Rattle.ref_rule.specs.Steps.{next_core, answer_of, is_slot, change, without};
+ghost use Rattle.ref_state.specs.State.{view};
+ghost use Rattle.ref_state.specs.Steps.{next_core, answer_of, is_slot, change, without};
 
 use crate::holds::{HoldTest, hold_place, mark_executed};
-use crate::items::Items;
-use crate::kinds::{Answer, Kind, Tag};
-use crate::state::{By, Entry, State, Turn};
+use ref_state::items::Items;
+use ref_state::kinds::{Answer, Kind, Tag};
+use ref_state::state::{By, Entry, State, Turn};
 use std::alloc::{AllocError, Global};
 
 fn turn_index(turns: &Items<Turn>, slot: u32) -> Option<usize>

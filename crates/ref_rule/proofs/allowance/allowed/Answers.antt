@@ -1,5 +1,5 @@
 use Rattle.std.proofs.Common.{◌↔◌, IsTrue, subst}
-use Rattle.ref_rule.specs.Steps.{IsAllowed}
+use Rattle.ref_state.specs.Steps.{IsAllowed}
 use Rattle.ref_rule.proofs.allowance.allowed.Goals as goal
 
 pub returns : goal.returns

@@ -1,6 +1,6 @@
 use Rattle.std.proofs.Common.{sym, subst}
-use Rattle.ref_rule.specs.Steps.{IsAllowed}
-use Rattle.ref_rule.proofs.Law.{sound_step}
+use Rattle.ref_state.specs.Steps.{IsAllowed}
+use Rattle.ref_state.proofs.Law.{sound_step}
 use Rattle.ref_rule.proofs.concurrency.step.Goals as goal
 
 pub take_step-requires-clause-allowed : goal.take_step-requires-clause-allowed

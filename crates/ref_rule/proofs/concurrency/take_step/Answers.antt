@@ -1,7 +1,7 @@
 use Rattle.std.proofs.Common.{subst, arith}
-use Rattle.ref_rule.specs.State.{view}
-use Rattle.ref_rule.specs.Steps.{MayStep}
-use Rattle.ref_rule.proofs.Needs.{room, serials, left_of_two, ups_fit, downs_fit}
+use Rattle.ref_state.specs.State.{view}
+use Rattle.ref_state.specs.Steps.{MayStep}
+use Rattle.ref_state.proofs.Needs.{room, serials, left_of_two, ups_fit, downs_fit}
 use Rattle.ref_rule.proofs.concurrency.take_step.Goals as goal
 
 pub draw_place-requires-clause-room : goal.draw_place-requires-clause-room

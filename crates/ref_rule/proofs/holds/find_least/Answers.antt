@@ -1,6 +1,6 @@
 use Rattle.std.proofs.Common.{◌∙◌, sym, ap, arith, refl}
 use Rattle.ref_rule.specs.HoldTests.{passes}
-use Rattle.ref_rule.proofs.Least.{least_more}
+use Rattle.ref_state.proofs.Least.{least_more}
 use Rattle.ref_rule.proofs.holds.find_least.Goals as goal
 
 pub loop-i-preserved-then-passes : goal.loop-i-preserved-then-passes

@@ -1,6 +1,6 @@
 use Rattle.std.proofs.Common.{◌≡◌, ◌≤◌, length, drop}
 use Rattle.ref_rule.specs.HoldTests.{passes}
-use Rattle.ref_rule.specs.Steps.{least_place}
+use Rattle.ref_state.specs.Steps.{least_place}
 use Rattle.ref_rule.proofs.holds.find_least.Given as goal
 
 abbrev pub invariant-loop-i : goal.invariant-loop-i

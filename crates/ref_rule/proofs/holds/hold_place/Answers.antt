@@ -1,6 +1,6 @@
 use Rattle.std.proofs.Common.{◌∙◌, sym, ap}
 use Rattle.ref_rule.specs.HoldTests.{passes}
-use Rattle.ref_rule.specs.Steps.{is_least, place_of}
+use Rattle.ref_state.specs.Steps.{is_least, place_of}
 use Rattle.ref_rule.proofs.Positions.{first_is, none_is}
 use Rattle.ref_rule.proofs.holds.hold_place.Goals as goal
 

@@ -1,7 +1,7 @@
 use Rattle.std.proofs.Common.{◌∙◌, sym, ap, slice_set, true}
-use Rattle.ref_rule.specs.declared.state.Hold.{Hold}
+use Rattle.ref_state.specs.declared.state.Hold.{Hold}
 use Rattle.ref_rule.specs.HoldTests.{passes}
-use Rattle.ref_rule.specs.Steps.{is_least}
+use Rattle.ref_state.specs.Steps.{is_least}
 use Rattle.ref_rule.proofs.Positions.{changed_is, none_is}
 use Rattle.ref_rule.proofs.holds.mark_executed.Goals as goal
 

@@ -1,6 +1,6 @@
 use Rattle.std.proofs.Common.{◌∙◌, sym}
 use Rattle.ref_rule.specs.HoldTests.{passes}
-use Rattle.ref_rule.specs.Steps.{is_least}
+use Rattle.ref_state.specs.Steps.{is_least}
 use Rattle.ref_rule.proofs.Positions.{removed_is, none_is}
 use Rattle.ref_rule.proofs.holds.remove_hold.Goals as goal
 

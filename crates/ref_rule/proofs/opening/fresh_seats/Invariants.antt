@@ -1,5 +1,5 @@
 use Rattle.std.proofs.Common.{◌≡◌, ◌≤◌, length, drop}
-use Rattle.ref_rule.specs.Soundness.{seats_from}
+use Rattle.ref_state.specs.Soundness.{seats_from}
 use Rattle.ref_rule.proofs.opening.fresh_seats.Given as goal
 
 abbrev pub invariant-loop-i : goal.invariant-loop-i

@@ -1,5 +1,5 @@
 use Rattle.std.proofs.Common.{◌≡◌, ◌+◌, drop}
-use Rattle.ref_rule.specs.Soundness.{sum_of}
+use Rattle.ref_state.specs.Soundness.{sum_of}
 use Rattle.ref_rule.proofs.opening.quota_sum.Given as goal
 
 abbrev pub invariant-loop-q : goal.invariant-loop-q

@@ -1,5 +1,5 @@
 use Rattle.std.proofs.Common.{◌∙◌, sym}
-use Rattle.ref_rule.specs.Steps.{is_at}
+use Rattle.ref_state.specs.Steps.{is_at}
 use Rattle.ref_rule.proofs.Positions.{removed_is, none_is}
 use Rattle.ref_rule.proofs.parts.drop_entry.Goals as goal
 

@@ -1,6 +1,6 @@
 use Rattle.std.proofs.Common.{◌≡◌, ◌∙◌, List, ◌∷◌, IfOk, Some, sym, ap, subst}
-use Rattle.ref_rule.specs.declared.state.Entry.{Entry}
-use Rattle.ref_rule.specs.Steps.{is_at, listed}
+use Rattle.ref_state.specs.declared.state.Entry.{Entry}
+use Rattle.ref_state.specs.Steps.{is_at, listed}
 use Rattle.ref_rule.proofs.Positions.{first_is, none_is}
 use Rattle.ref_rule.proofs.parts.entry_alone.Goals as goal
 

@@ -1,11 +1,11 @@
 use Rattle.std.proofs.Common.{◌≡◌, ℕ, ◌<◌, ◌∙◌, List, [], ◌∷◌, ◌++◌, length, get_or, slice_set, ap}
 use Rattle.std.proofs.lemmas.List.{set-append_left}
-use Rattle.ref_rule.specs.declared.kinds.Take.{Take}
-use Rattle.ref_rule.specs.declared.state.View.{View}
-use Rattle.ref_rule.specs.declared.state.State.{State as Core}
-use Rattle.ref_rule.specs.State.{view, no_view}
-use Rattle.ref_rule.specs.Steps.{after_split, split_part}
-use Rattle.ref_rule.proofs.SideSteps.{or_before}
+use Rattle.ref_state.specs.declared.kinds.Take.{Take}
+use Rattle.ref_state.specs.declared.state.View.{View}
+use Rattle.ref_state.specs.declared.state.State.{State as Core}
+use Rattle.ref_state.specs.State.{view, no_view}
+use Rattle.ref_state.specs.Steps.{after_split, split_part}
+use Rattle.ref_state.proofs.SideSteps.{or_before}
 use Rattle.ref_rule.proofs.parts.split.Goals as goal
 
 -- the part is added, and then the seat's view is changed

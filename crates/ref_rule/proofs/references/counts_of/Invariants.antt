@@ -1,5 +1,5 @@
 use Rattle.std.proofs.Common.{◌≡◌, map, take}
-use Rattle.ref_rule.specs.Steps.{count_or}
+use Rattle.ref_state.specs.Steps.{count_or}
 use Rattle.ref_rule.proofs.references.counts_of.Given as goal
 
 abbrev pub invariant-loop-found : goal.invariant-loop-found

@@ -1,6 +1,6 @@
 use Rattle.std.proofs.Common.{List, ◌∙◌, ap}
-use Rattle.ref_rule.specs.declared.state.Hold.{Hold}
-use Rattle.ref_rule.specs.Steps.{may_put, without_least}
+use Rattle.ref_state.specs.declared.state.Hold.{Hold}
+use Rattle.ref_state.specs.Steps.{may_put, without_least}
 use Rattle.ref_rule.proofs.references.holds_put.Goals as goal
 
 pub returns : goal.returns

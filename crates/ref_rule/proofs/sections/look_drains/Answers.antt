@@ -1,7 +1,7 @@
 use Rattle.std.proofs.Common.{◌≡◌, ℕ, suc, ◌+◌, ◌<◌, ◌∙◌, List, length, get_or, slice_set, ap, arith}
-use Rattle.ref_rule.specs.declared.state.Drain.{Drain}
-use Rattle.ref_rule.specs.State.{no_drain}
-use Rattle.ref_rule.specs.Steps.{at_drain}
+use Rattle.ref_state.specs.declared.state.Drain.{Drain}
+use Rattle.ref_state.specs.State.{no_drain}
+use Rattle.ref_state.specs.Steps.{at_drain}
 use Rattle.ref_rule.proofs.Mapped.{mapped, mapped_at, mapped_step}
 use Rattle.ref_rule.proofs.sections.look_drains.Goals as goal
 

@@ -1,5 +1,5 @@
 use Rattle.std.proofs.Common.{◌≡◌}
-use Rattle.ref_rule.specs.Steps.{at_drain}
+use Rattle.ref_state.specs.Steps.{at_drain}
 use Rattle.ref_rule.proofs.Mapped.{mapped}
 use Rattle.ref_rule.proofs.sections.look_drains.Given as goal
 

@@ -1,6 +1,6 @@
 use Rattle.std.proofs.Common.{◌∙◌, sym, ap, slice_set}
-use Rattle.ref_rule.specs.declared.state.Turn.{Turn}
-use Rattle.ref_rule.specs.Steps.{is_slot}
+use Rattle.ref_state.specs.declared.state.Turn.{Turn}
+use Rattle.ref_state.specs.Steps.{is_slot}
 use Rattle.ref_rule.proofs.Positions.{changed_is, none_is}
 use Rattle.ref_rule.proofs.turns.move_extent.Goals as goal
 

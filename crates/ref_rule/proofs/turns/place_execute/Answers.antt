@@ -1,12 +1,12 @@
 use Rattle.std.proofs.Common.{◌≡◌, ℕ, ◌+◌, ◌-◌, ◌/◌, ◌∙◌, List, ◌∷◌, true, ap, slice_set}
-use Rattle.ref_rule.specs.declared.kinds.Tag.{Tag}
-use Rattle.ref_rule.specs.declared.state.By.TheVariants as by
-use Rattle.ref_rule.specs.declared.state.Entry.{Entry}
-use Rattle.ref_rule.specs.declared.state.Hold.{Hold}
-use Rattle.ref_rule.specs.declared.state.View.{View}
-use Rattle.ref_rule.specs.declared.state.State.{State as Core}
-use Rattle.ref_rule.specs.State.{no_view}
-use Rattle.ref_rule.specs.Steps.{new_entry, is_least, least, is_held, change, place_of, after_execute}
+use Rattle.ref_state.specs.declared.kinds.Tag.{Tag}
+use Rattle.ref_state.specs.declared.state.By.TheVariants as by
+use Rattle.ref_state.specs.declared.state.Entry.{Entry}
+use Rattle.ref_state.specs.declared.state.Hold.{Hold}
+use Rattle.ref_state.specs.declared.state.View.{View}
+use Rattle.ref_state.specs.declared.state.State.{State as Core}
+use Rattle.ref_state.specs.State.{no_view}
+use Rattle.ref_state.specs.Steps.{new_entry, is_least, least, is_held, change, place_of, after_execute}
 use Rattle.ref_rule.proofs.turns.place_execute.Goals as goal
 
 abbrev exec : Hold → Hold

@@ -1,7 +1,7 @@
 use Rattle.std.proofs.Common.{◌*◌, replicate, sym, subst}
-use Rattle.ref_rule.specs.Soundness.{IsSound, opened_core}
-use Rattle.ref_rule.proofs.Whole.{parts_of}
-use Rattle.ref_rule.proofs.Opened.{opens}
+use Rattle.ref_state.specs.Soundness.{IsSound, opened_core}
+use Rattle.ref_state.proofs.Whole.{parts_of}
+use Rattle.ref_state.proofs.Opened.{opens}
 use Rattle.ref_rule.proofs.concurrency.Core.opened.Goals as goal
 
 pub invariant_of-result : goal.invariant_of-result

@@ -1,5 +1,0 @@
-use Rattle.ref_rule.proofs.Consequences.{shown_counts, gets_meet_no_fold}
-use Rattle.ref_rule.proofs.laws.gets_meet_no_fold.Goals as goal
-
-pub returns : goal.returns
-returns c = record { shown = shown_counts; gets = gets_meet_no_fold }

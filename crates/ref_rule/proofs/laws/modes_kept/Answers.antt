@@ -1,5 +1,0 @@
-use Rattle.ref_rule.proofs.Law.{sound_step}
-use Rattle.ref_rule.proofs.laws.modes_kept.Goals as goal
-
-pub returns : goal.returns
-returns c = λ a b j k s t. (sound_step a b j k t s).modes

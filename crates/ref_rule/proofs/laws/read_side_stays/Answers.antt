@@ -1,5 +1,0 @@
-use Rattle.ref_rule.proofs.Consequences.{read_side_stays}
-use Rattle.ref_rule.proofs.laws.read_side_stays.Goals as goal
-
-pub returns : goal.returns
-returns c = read_side_stays

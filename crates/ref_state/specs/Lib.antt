@@ -1,0 +1,5 @@
+pub mod State
+pub mod Steps
+pub mod Soundness
+pub mod Runs
+pub mod Lending
