@@ -1,8 +1,10 @@
 // Every answer of a run with its line, and what it leaves of each file.
 use crate::status::{CAPSULES, PLAN, RESPONSES, SINK};
-use crate::{At, Status, command};
+use crate::tests::entry;
+use crate::{At, Status, command, run_plan};
 use plan_files::{MemFiles, MemSink, OpenGate};
-use std::alloc::Global;
+use sqe_cqe::write_sqe;
+use std::alloc::{AllocError, Global};
 use std::sync::Wait;
 use std::test::Fail;
 use std::thread::Threads;
@@ -189,5 +191,47 @@ fn a_sink_that_fails_at_each_byte(rt: HostRuntime) -> Result<(), Fail> {
             assert_eq!(rt; differs, "", "row {number}, room {room}");
         }
     }
+    Ok(())
+}
+
+// A queue file with a Write and a Read of eight blocks.
+fn first_queue(alloc: Global) -> Result<Vec<u8>, AllocError> {
+    let mut q1 = Vec::from_slice(alloc, &write_sqe(&entry(0x01, 1, 1, 0, 7, 4096)))?;
+    q1.extend_from_slice(&[7; 4096])?;
+    q1.extend_from_slice(&write_sqe(&entry(0x02, 2, 1, 0, 7, 4096)))?;
+    Ok(q1)
+}
+
+fn first_files(alloc: Global) -> Result<MemFiles, AllocError> {
+    let mut files = MemFiles::new(alloc, Vec::new(alloc));
+    let q1 = first_queue(alloc)?;
+    for (name, bytes) in [("p", GOOD), ("q1", q1.as_slice()), ("r1", b"old")] {
+        if files.put(name, bytes).is_err() {
+            return Err(AllocError);
+        }
+    }
+    Ok(files)
+}
+
+// With ample memory the first run ends well. The script `refused-memory` runs this test with each allocation refused in
+// turn: then the run is out of memory, and the response file is as it was.
+#[test]
+fn the_first_run_with_refused_memory(rt: HostRuntime) -> Result<(), Fail> {
+    let Ok(mut files) = first_files(rt.alloc()) else {
+        return Ok(());
+    };
+    let Ok(mut out) = MemSink::new(rt.alloc(), 4096, Vec::new(rt.alloc())) else {
+        return Ok(());
+    };
+    let status = run_plan(&rt, rt.alloc(), "p", &mut files, &mut out, &OpenGate);
+    if status == Status::Fine {
+        assert!(rt; files.content("r1") != Some(b"old".as_slice()));
+        println!(rt; "the run ended well")?;
+        return Ok(());
+    }
+    assert_eq!(rt; status, Status::Memory);
+    assert_eq!(rt; out.bytes(), b"out of memory\n".as_slice());
+    assert_eq!(rt; files.content("r1"), Some(b"old".as_slice()));
+    println!(rt; "the run was out of memory")?;
     Ok(())
 }

@@ -4,6 +4,9 @@
 //! The run theorem is the clause `fine` of the public calls: there is one run whose plan and capsules are what was read,
 //! whose callers' lists are ordered and serve each capsule once and in its file's order, whose history is a legal one of
 //! the sequential target, and of which the written records and the summary are the print.
+//!
+//! Every other answer has its cause: the clause `refused` says why it came and what it left, `exact` and `complete` that it
+//! comes where told files have it, and `usage` of `command` where the words are no command.
 #![tactic(auto)]
 
 #[cfg(test)]

@@ -141,7 +141,14 @@ fn run_whole<F: Files, K: Sink>(
 
 /// Runs a plan: reads it and its capsule files, serves them, writes the response files and puts the summary.
 ///
-/// `Fine` means that the run theorem holds. With any other status the sink takes the one line of that status.
+/// - `Fine`: the run theorem holds.
+/// - `Malformed`, `Limit`: the first bad place or passed limit of the plan, or else of the queue file.
+/// - `ReadFault`: the read of that file failed. It was the last call on the files, and their count of faults rose.
+/// - `WriteFault`: the same of the write of the response file; or the sink failed while it took the summary.
+/// - `Memory`: memory ran out.
+///
+/// With any status but `Fine` the sink takes the one line of that status; where it fails under it the status stays. Before
+/// the write no file is touched, and no other than the response file ever is. The call may wait.
 pub fn run_plan<R: Wait + Threads + Sync, F: Files, K: Sink, G: Gate + Sync>(
     _rt: &R,
     alloc: Global,

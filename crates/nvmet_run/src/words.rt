@@ -54,7 +54,8 @@ fn plan_of(words: &[String]) -> Option<&str>
 /// The top call: reads the words of the command line and runs the command.
 ///
 /// The one command is `run PLAN`, PLAN being 1 to 255 bytes from 21h to 7Eh that don't begin with `-`. Any other words are
-/// a usage fault.
+/// a usage fault: no file is touched, and the sink takes the line that says how to call the program. The answers of
+/// `run PLAN` are those of [`run_plan`].
 pub fn command<R: Wait + Threads + Sync, F: Files, K: Sink, G: Gate + Sync>(
     rt: &R,
     alloc: Global,
