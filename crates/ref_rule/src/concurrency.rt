@@ -1,10 +1,11 @@
-//! The executable core: opened, and taken from step to step.
-ghost use Rattle.std.specs.Prelude.{◌≡◌, ◌*◌, ◌^◌, ◌<◌, ◌≤◌, length, replicate, IfOk, OnErr, OnOk};
+//! The executable core: opened, asked, and taken from step to step.
+ghost use Rattle.std.specs.Prelude.{◌≡◌, ◌↔◌, IsTrue, ◌*◌, ◌^◌, ◌<◌, ◌≤◌, length, replicate, IfOk, OnErr, OnOk};
 ghost use Rattle.ref_state.specs.Steps.{IsAllowed, next_core, answer_of};
 ghost use Rattle.ref_state.specs.Soundness.{IsSound, opened_core, sum_of};
 
 use crate::opening::opened_state;
 use crate::{parts, references, sections, turns};
+use ref_allowed::allowance::may_take_step;
 use ref_state::kinds::{Answer, Kind};
 use ref_state::state::State;
 use std::alloc::{AllocError, Global};
@@ -97,6 +98,14 @@ fn take_step(alloc: Global, s: &mut State, seat: u32, k: &Kind) -> Result<Answer
         Kind::SlotIn { slot } => Ok(turns::slot_in(s, seat, slot)),
         Kind::GiveTurn { slot } => Ok(turns::give_turn(s, seat, slot)),
     }
+}
+
+/// Whether the seat may take the step: it is a seat, what the kind names is there, and the kind's condition holds. It
+/// takes no memory and changes nothing.
+pub fn allowed(c: &Core, seat: u32, k: &Kind) -> bool
+    ensures { IsTrue result ↔ IsAllowed c.now seat k.now }
+{
+    may_take_step(c.state(), seat, k)
 }
 
 /// The seat takes a step. It leaves and answers what the one step relation says; where memory is refused, the core is as

@@ -1,20 +1,14 @@
 //! Parts of a seat: what is split off, and what is joined.
-ghost use Rattle.std.specs.Prelude.{◌≡◌, ◌≢◌, ◌+◌, ◌-◌, ◌++◌, ◌^◌, ◌<◌, ◌==◌, if◌then◌else◌, length, position, IfOk, OnErr, OnOk};
+ghost use Rattle.std.specs.Prelude.{◌≡◌, ◌≢◌, ◌+◌, ◌-◌, ◌++◌, ◌^◌, ◌<◌, ◌==◌, if◌then◌else◌, length, IfOk, OnErr, OnOk};
 ghost use Rattle.ref_state.specs.State.{view};
 ghost use Rattle.ref_state.specs.Steps.{next_core, answer_of, is_at, is_on, first, without, least, listed, after_split, split_part, after_join, spent_view};
 
-use crate::holds::{HoldTest, hold_index, remove_hold};
+use ref_allowed::entries::entry_index;
+use ref_allowed::holds::{HoldTest, hold_index, remove_hold};
 use ref_state::items::Items;
 use ref_state::kinds::{Answer, Kind, Take};
 use ref_state::state::{Entry, Hold, LoadedMode, Role, Section, State, View};
 use std::alloc::{AllocError, Global};
-
-/// Where the entry of a place stands, if it does.
-pub fn entry_index(entries: &Items<Entry>, place: u32) -> Option<usize>
-    ensures { result ≡ position (is_at place) entries.now }
-{
-    entries.as_slice().iter().position(|e| e.place == place)
-}
 
 // Takes the entry of a place out, where it stands.
 fn drop_entry(entries: &mut Items<Entry>, place: u32)

@@ -1,25 +1,20 @@
 //! Steps on a disk's reference: gets and puts, and what the editor does from the kill to the next life.
 ghost use Rattle.std.specs.Prelude.{◌≡◌, ◌+◌, ◌++◌, ◌%◌, ◌^◌, ◌<◌, length, map, true, false, if◌then◌else◌, IfOk, OnErr, OnOk, slice_index_or, slice_set};
-ghost use Rattle.ref_state.specs.State.{view, disk as disk_at, no_count, word_of};
+ghost use Rattle.ref_state.specs.State.{view, disk as disk_at, no_count};
 ghost use Rattle.ref_state.specs.Steps.{next_core, answer_of, count_after, word_after, count_or, hold_of, section_got, loaded_mode, may_put, without_least, after_add};
 
-use crate::holds::{HoldTest, remove_hold};
+use ref_allowed::counts::{BIAS, ZERO, count_word};
+use ref_allowed::holds::{HoldTest, remove_hold};
 use ref_state::items::Items;
 use ref_state::kinds::{Answer, Kind, Tag};
 use ref_state::state::{By, Count, Entry, Hold, LoadedMode, Mark, Phase, Section, State, View};
 use std::alloc::{AllocError, Global};
-
-/// 2^63, which stands in the shared count of a live reference.
-pub const BIAS: u64 = 0x8000_0000_0000_0000;
 
 /// The mode word of a live reference.
 pub const LIVE: u64 = 0;
 
 /// The mode word of a killed one.
 pub const KILLED: u64 = 1;
-
-/// A counter that was never raised or lowered.
-pub const ZERO: Count = Count { ups: 0, downs: 0 };
 
 fn mode_of(disk: u32, word: u64) -> LoadedMode
     ensures { result ≡ loaded_mode disk word }
@@ -195,13 +190,6 @@ pub fn kill(alloc: Global, s: &mut State, seat: u32, disk: u32) -> Result<Answer
     drain.marks = marks;
     drain.looked = looked;
     Ok(Answer::Nothing)
-}
-
-/// The word of a counter: the whole number modulo 2^64.
-pub fn count_word(count: Count) -> u64
-    ensures { result ≡ word_of count }
-{
-    count.ups.wrapping_sub(count.downs)
 }
 
 /// A seat's own counter is looked at.

@@ -1,6 +1,6 @@
 use Rattle.std.proofs.Common.{◌∙◌, sym}
 use Rattle.ref_state.specs.Steps.{is_at}
-use Rattle.ref_rule.proofs.Positions.{removed_is, none_is}
+use Rattle.ref_allowed.proofs.Positions.{removed_is, none_is}
 use Rattle.ref_rule.proofs.parts.drop_entry.Goals as goal
 
 pub returns-in-Some : goal.returns-in-Some

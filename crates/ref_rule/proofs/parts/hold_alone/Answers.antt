@@ -1,7 +1,7 @@
 use Rattle.std.proofs.Common.{◌≡◌, ◌∙◌, List, ◌∷◌, IfOk, Some, sym, ap, subst}
 use Rattle.ref_state.specs.declared.state.Hold.{Hold}
 use Rattle.ref_state.specs.Steps.{is_on, is_least, listed}
-use Rattle.ref_rule.proofs.Positions.{first_is, none_is}
+use Rattle.ref_allowed.proofs.Positions.{first_is, none_is}
 use Rattle.ref_rule.proofs.parts.hold_alone.Goals as goal
 
 pub returns-in-Some : goal.returns-in-Some

@@ -1,6 +1,6 @@
 use Rattle.std.proofs.Common.{◌∙◌, sym}
 use Rattle.ref_state.specs.Steps.{is_slot}
-use Rattle.ref_rule.proofs.Positions.{removed_is, none_is}
+use Rattle.ref_allowed.proofs.Positions.{removed_is, none_is}
 use Rattle.ref_rule.proofs.turns.drop_turn.Goals as goal
 
 pub returns-in-Some : goal.returns-in-Some

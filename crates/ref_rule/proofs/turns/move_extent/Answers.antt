@@ -1,7 +1,7 @@
 use Rattle.std.proofs.Common.{◌∙◌, sym, ap, slice_set}
 use Rattle.ref_state.specs.declared.state.Turn.{Turn}
 use Rattle.ref_state.specs.Steps.{is_slot}
-use Rattle.ref_rule.proofs.Positions.{changed_is, none_is}
+use Rattle.ref_allowed.proofs.Positions.{changed_is, none_is}
 use Rattle.ref_rule.proofs.turns.move_extent.Goals as goal
 
 pub returns-in-Some : goal.returns-in-Some
