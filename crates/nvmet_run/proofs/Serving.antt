@@ -88,13 +88,15 @@ since told faults mid_faults last mid_last sink after name queues f le s = recor
         | inl files ↦ elim files [
           | inl u ↦ inl (inl (record { refused = refused_since CAPSULES s.queue.capsules told faults mid_faults last mid_last after.files f le u.refused; kept = u.kept; silent = u.silent }))
           | inr u ↦ inl (inr (record {
-              is = u.is;
-              failed = failed_since true s.queue.responses (files_view told faults last) (files_view told mid_faults mid_last) after.files le u.failed;
-              kept = u.kept;
-              silent = u.silent;
-            }))
+            is = u.is;
+            failed = failed_since true s.queue.responses (files_view told faults last) (files_view told mid_faults mid_last) after.files le u.failed;
+            kept = u.kept;
+            silent = u.silent;
+          }))
         ]
-        | inr u ↦ inr (u.0, record {
+        | inr u ↦ inr (
+          u.0,
+          record {
             run = u.1.run;
             read = u.1.read;
             ordered = u.1.ordered;
@@ -103,7 +105,8 @@ since told faults mid_faults last mid_last sink after name queues f le s = recor
             written = u.1.written;
             kept = u.1.kept;
             failed = u.1.failed;
-          })
+          },
+        )
       ];
 }
 
@@ -173,13 +176,16 @@ unwritten_refusal : (before mid after : Outside) (name : List ℕ) (plan : Plan)
 unwritten_refusal before mid after name plan q f reads queues u same said =
     let n : file_of f ≡ RESPONSES = ap file_of u.is in
     let line = said_of before.sink mid.sink after.sink q.responses (name_by plan.queues name (file_of f)) f u.silent (named_responses plan.queues name q (file_of f) queues n) said in
-    subst (λ (x : Fault). Refusal before after name x) (sym u.is) (inl (refl, record {
-      queue = q;
-      planned = record { plan = plan; reads = reads; queues = queues };
-      failed = subst (λ (v : FilesView). FailedCall true q.responses before.files v) (sym same) u.failed;
-      kept = subst (λ (v : FilesView). KeptBut before.files.told v.told (q ∷ [])) (sym same) u.kept;
-      said = subst (λ (x : Fault). Said before.sink after.sink (line_of q.responses x)) u.is line;
-    }))
+    subst (λ (x : Fault). Refusal before after name x) (sym u.is) (inl (
+      refl,
+      record {
+        queue = q;
+        planned = record { plan = plan; reads = reads; queues = queues };
+        failed = subst (λ (v : FilesView). FailedCall true q.responses before.files v) (sym same) u.failed;
+        kept = subst (λ (v : FilesView). KeptBut before.files.told v.told (q ∷ [])) (sym same) u.kept;
+        said = subst (λ (x : Fault). Said before.sink after.sink (line_of q.responses x)) u.is line;
+      },
+    ))
 
 take_none : (n : ℕ) (mid : List ℕ) → mid ++ take n [] ≡ mid
 take_none zero mid = append-nil mid
@@ -205,16 +211,19 @@ unsaid_refusal : (before mid after : Outside) (name : List ℕ) (named : List �
 unfolding line_of
 unsaid_refusal before mid after name named f is u same said =
     let nothing = subst (λ (x : Fault). Said mid.sink after.sink (line_of named x)) is said in
-    subst (λ (x : Fault). Refusal before after name x) (sym is) (inr (refl, record {
-      run = u.run;
-      read = u.read;
-      ordered = u.ordered;
-      served = u.served;
-      legal = u.legal;
-      written = subst (λ (v : FilesView). IsWritten v.told u.run) (sym same) u.written;
-      kept = subst (λ (v : FilesView). KeptBut before.files.told v.told u.run.plan.queues) (sym same) u.kept;
-      failed = failed_still before.sink mid.sink after.sink (summary u.run) u.failed nothing;
-    }))
+    subst (λ (x : Fault). Refusal before after name x) (sym is) (inr (
+      refl,
+      record {
+        run = u.run;
+        read = u.read;
+        ordered = u.ordered;
+        served = u.served;
+        legal = u.legal;
+        written = subst (λ (v : FilesView). IsWritten v.told u.run) (sym same) u.written;
+        kept = subst (λ (v : FilesView). KeptBut before.files.told v.told u.run.plan.queues) (sym same) u.kept;
+        failed = failed_still before.sink mid.sink after.sink (summary u.run) u.failed nothing;
+      },
+    ))
 
 -- what a run has left once the line of its fault is put
 pub refusal : (before mid after : Outside) (name : List ℕ) (plan : Plan) (f : Fault) → ReadsPlan before.files.told name plan → ServingRefused before mid name plan.queues f → after.files ≡ mid.files

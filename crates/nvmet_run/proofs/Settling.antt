@@ -72,16 +72,16 @@ settled before after name (fault.Limit n what count) first r t quiet =
       | inl plan ↦ inl (inl (plan_first before.files.told name (fault.Limit n what count) first plan.1 t))
       | inr q ↦ inl (inl (queue_first before.files.told name q.planned.plan q.queue (fault.Limit n what count) first q.planned.reads q.planned.queues q.refused t))
     ]
-settled before after name (fault.ReadFault n) first r t quiet = elim r.cause [ | inl plan ↦ absurd (quiet plan.1.1.rose) | inr q ↦ absurd (quiet q.refused.1.rose) ]
+settled before after name (fault.ReadFault n) first r t quiet = elim r.cause [ inl plan ↦ absurd (quiet plan.1.1.rose) | inr q ↦ absurd (quiet q.refused.1.rose) ]
 settled before after name (fault.WriteFault n) first r t quiet =
-    elim r [ | inl file ↦ absurd (quiet file.1.failed.rose) | inr sink ↦ inr (none_told before.files.told name sink.1.run first sink.1.read t, sink.1.failed.cause.failed) ]
+    elim r [ inl file ↦ absurd (quiet file.1.failed.rose) | inr sink ↦ inr (none_told before.files.told name sink.1.run first sink.1.read t, sink.1.failed.cause.failed) ]
 settled before after name fault.Memory first r t quiet = inl (inr refl)
 
 pub exact_fault : (before after : Outside) (name : List ℕ) (g f : Fault) → Refusal before after name g → FilesTell before.files.told name (Some f) → (Rose before.files.faults after.files.faults → ⊥)
     → (status_of g ≡ status_of f) ⊎ (status_of g ≡ status.Memory)
 exact_fault before after name g f r t quiet =
     elim (settled before after name g (Some f) r t quiet) [
-      | inl known ↦ elim known [ | inl first ↦ (let is : g ≡ f = cc in inl (ap status_of is)) | inr memory ↦ inr (ap status_of memory) ]
+      | inl known ↦ elim known [ inl first ↦ (let is : g ≡ f = cc in inl (ap status_of is)) | inr memory ↦ inr (ap status_of memory) ]
       | inr sink ↦ (let none : Some f ≡ None = sink.0 in absurd cc)
     ]
 
@@ -92,6 +92,6 @@ pub complete_fault : (before after : Outside) (name : List ℕ) (g : Fault) → 
     → (status_of g ≡ status.Fine) ⊎ (status_of g ≡ status.Memory)
 complete_fault before after name g r t quiet calm =
     elim (settled before after name g None r t quiet) [
-      | inl known ↦ elim known [ | inl first ↦ absurd cc | inr memory ↦ inr (ap status_of memory) ]
+      | inl known ↦ elim known [ inl first ↦ absurd cc | inr memory ↦ inr (ap status_of memory) ]
       | inr sink ↦ absurd (calm sink.1)
     ]

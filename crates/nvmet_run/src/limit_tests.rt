@@ -30,7 +30,11 @@ fn said<R: Wait + Threads + Sync>(
 type QueueRow = (&'static [(u8, u32, usize)], usize, &'static str);
 
 const QUEUES: &[QueueRow] = &[
-    (&[(0x00, 0, 1), (0x02, 512, 1)], 2, "malformed q1 offset 128\n"),
+    (
+        &[(0x00, 0, 1), (0x02, 512, 1)],
+        2,
+        "malformed q1 offset 128\n",
+    ),
     (&[(0x01, 4096, 1)], 100, "malformed q1 offset 0\n"),
     (&[(0x01, 4096, 1)], 4095, "malformed q1 offset 0\n"),
     (&[(0x01, 4096, 1)], 4096, ""),
@@ -84,7 +88,10 @@ const PLANS: &[(&str, &str)] = &[
     ("nvmet-plan 1\nconfig c", "malformed p line 3\n"),
     ("nvmet-plan 1\nconfig c\n", "malformed p line 3\n"),
     ("nvmet-plan 1\nconfig c\n\n", "malformed p line 4\n"),
-    ("nvmet-plan 1\nsimple\nqueue 1 q1 q1\n", "malformed p line 3\n"),
+    (
+        "nvmet-plan 1\nsimple\nqueue 1 q1 q1\n",
+        "malformed p line 3\n",
+    ),
     (
         "nvmet-plan 1\njournal j\nqueue 1 q1 r1\nqueue 1 q1 r2\nconfig c\n",
         "malformed p line 4\n",
