@@ -12,12 +12,9 @@ use Rattle.configfs_tree.specs.Maps.{update_at}
 use Rattle.configfs_tree.specs.Rows.{put_in}
 use Rattle.configfs_tree.specs.Subsystems.{fresh_subsystem, put_namespace}
 use Rattle.configfs_tree.specs.Holders.{holds_path}
-use Rattle.configfs_tree.specs.Outcome.{Outcome, Refuses, Accepts, first_of, either, unless_stands, if_subsystem, if_namespace, if_port, if_group, with_settings, on_subsystem, on_port, counted, nothing}
+use Rattle.configfs_tree.specs.Outcome.{with_settings, on_subsystem, on_port, counted}
 use Rattle.configfs_tree.specs.Standing.{Placed, placed_row, placed_in, placed, HasHolders, SubsystemPlaces, IsStanding}
 use Rattle.configfs_tree.specs.declared.limits.TheConstants.{MAX_SUBSYSTEMS, MAX_PORTS}
-use Rattle.configfs_tree.specs.declared.edits.Errno.{Errno}
-use Rattle.configfs_tree.specs.declared.edits.Errno.TheVariants.{ENOENT}
-use Rattle.configfs_tree.specs.declared.edits.Change.{Change}
 use Rattle.configfs_tree.specs.declared.namespaces.NamespaceRow.{NamespaceRow}
 use Rattle.configfs_tree.specs.declared.namespaces.NamespacePut.{NamespacePut}
 use Rattle.configfs_tree.specs.declared.subsystems.SubsystemRow.{SubsystemRow}
@@ -28,7 +25,7 @@ use Rattle.configfs_tree.proofs.Gets.{some_same, none_some, cases_key, get-inser
 use Rattle.configfs_tree.proofs.Placing.{places_updated}
 use Rattle.configfs_tree.proofs.Held.{here, cases_name, moved_same, altered_kept, altered_free}
 
-abbrev Rows : Type 0
+abbrev pub Rows : Type 0
 Rows = FinMap name_order SubsystemRow
 
 pub names_same : IsAntisymmetric name_order
@@ -50,7 +47,7 @@ placed_attr m sub f same a j = ⊎_elim
     (λ ne. ap (placed_in j) (get-update_beside nat_list_cmp_total names_same m sub f a ne))
     (cases_name a sub)
 
-abbrev Spaces : Type 0
+abbrev pub Spaces : Type 0
 Spaces = FinMap nat_cmp NamespaceRow
 
 -- a subsystem with its namespaces edited
@@ -155,66 +152,3 @@ one_put p group state one = ⊎_elim
 
 pub one_removed : (p : PortRow) (group : ℕ) → (group == 1) ≡ false → IsTrue (map.contains_key p.groups 1) → IsTrue (map.contains_key (map.remove p.groups group) 1)
 one_removed p group other one = ap is_some (get-remove_beside nat_cmp_total nat_cmp-IsAntisymmetric p.groups group 1 (λ e. both_ways (group == 1) other (eq-eqb group 1 (sym e)))) ∙ one
-
--- ---- outcomes
-abbrev IfAccepts : Outcome → Type 0
-IfAccepts (Refuses errno) = Unit {0}
-IfAccepts (Accepts u change) = IsStanding u
-
--- what an outcome leaves, if it accepts
-pub record Keeps (o : Outcome) : Type 0 where
-  kept : IfAccepts o
-
-pub refuses : (errno : Errno) → Keeps (Refuses errno)
-refuses errno = record { kept = tt }
-
-pub accepts : (u : Tree) (change : Change) → IsStanding u → Keeps (Accepts u change)
-accepts u change h = record { kept = h }
-
-pub accepted : (u : Tree) (change : Change) → Keeps (Accepts u change) → IsStanding u
-accepted u change h = h.kept
-
-pub keeps_row : (b : Bool) (errno : Errno) (rows : List (Bool × Errno)) (o : Outcome) → (b ≡ false → Keeps (first_of rows o)) → Keeps (first_of ((b, errno) ∷ rows) o)
-unfolding first_of
-keeps_row true errno rows o h = refuses errno
-keeps_row false errno rows o h = h refl
-
--- the last row
-pub keeps_end : (b : Bool) (errno : Errno) (o : Outcome) → (b ≡ false → Keeps o) → Keeps (first_of ((b, errno) ∷ []) o)
-unfolding first_of
-keeps_end true errno o h = refuses errno
-keeps_end false errno o h = h refl
-
--- the last row, before an edit is accepted
-pub keeps_last : (b : Bool) (errno : Errno) (u : Tree) (change : Change) → (b ≡ false → IsStanding u) → Keeps (first_of ((b, errno) ∷ []) (Accepts u change))
-keeps_last b errno u change h = keeps_end b errno (Accepts u change) (λ e. accepts u change (h e))
-
-pub keeps_either : (b : Bool) (x y : Outcome) → Keeps x → Keeps y → Keeps (either b x y)
-unfolding either
-keeps_either true x y h k = h
-keeps_either false x y h k = k
-
-pub keeps_unless : (b : Bool) (t u : Tree) (change : Change) → IsStanding t → (b ≡ false → IsStanding u) → Keeps (unless_stands b t (Accepts u change))
-unfolding unless_stands
-keeps_unless true t u change s h = accepts t nothing s
-keeps_unless false t u change s h = accepts u change (h refl)
-
-pub keeps_if_subsystem : (found : Option SubsystemRow) (f : SubsystemRow → Outcome) → ((x : SubsystemRow) → found ≡ Some x → Keeps (f x)) → Keeps (if_subsystem found f)
-unfolding if_subsystem
-keeps_if_subsystem None f h = refuses ENOENT
-keeps_if_subsystem (Some x) f h = h x refl
-
-pub keeps_if_namespace : (found : Option NamespaceRow) (f : NamespaceRow → Outcome) → ((x : NamespaceRow) → found ≡ Some x → Keeps (f x)) → Keeps (if_namespace found f)
-unfolding if_namespace
-keeps_if_namespace None f h = refuses ENOENT
-keeps_if_namespace (Some x) f h = h x refl
-
-pub keeps_if_port : (found : Option PortRow) (f : PortRow → Outcome) → ((x : PortRow) → found ≡ Some x → Keeps (f x)) → Keeps (if_port found f)
-unfolding if_port
-keeps_if_port None f h = refuses ENOENT
-keeps_if_port (Some x) f h = h x refl
-
-pub keeps_if_group : (found : Option AnaState) (f : AnaState → Outcome) → ((a : AnaState) → Keeps (f a)) → Keeps (if_group found f)
-unfolding if_group
-keeps_if_group None f h = refuses ENOENT
-keeps_if_group (Some a) f h = h a

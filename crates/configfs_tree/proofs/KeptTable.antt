@@ -12,7 +12,7 @@ use Rattle.configfs_tree.specs.Nqns.{name_order}
 use Rattle.configfs_tree.specs.Maps.{update_at}
 use Rattle.configfs_tree.specs.Rows.{put_in, fresh_namespace}
 use Rattle.configfs_tree.specs.Subsystems.{fresh_subsystem, put_in_subsystem, put_allowed, put_namespace}
-use Rattle.configfs_tree.specs.Ports.{fresh_port, put_in_port, put_link, put_group, remove_group}
+use Rattle.configfs_tree.specs.Ports.{fresh_port, with_address, put_link, put_group, remove_group}
 use Rattle.configfs_tree.specs.Places.{lowest_free}
 use Rattle.configfs_tree.specs.Holders.{disk_of, holder_of, hold, holds_path, has_disk, is_held, path_or_empty}
 use Rattle.configfs_tree.specs.Outcome.{Outcome, unless_stands, on_subsystem, on_port}
@@ -27,7 +27,8 @@ use Rattle.configfs_tree.specs.declared.ports.AnaState.{AnaState}
 use Rattle.configfs_tree.specs.declared.ports.PortRow.{PortRow}
 use Rattle.configfs_tree.specs.declared.tree.Tree.{Tree}
 use Rattle.configfs_tree.proofs.Gets.{some_same, none_some, cases_key, get-insert_at, get-insert_beside, get-remove_at, get-remove_beside, get-update_at, get-update_beside}
-use Rattle.configfs_tree.proofs.Kept.{names_same, none_of_test, placed_made, placed_removed, placed_others, placed_here, placed_was, subsystems_changed, count_changed, subsystem_put, namespace_put, namespace_free, port_put, one_put, one_removed, Keeps, refuses, accepted, keeps_row, keeps_end, keeps_last, keeps_either, keeps_unless, keeps_if_subsystem, keeps_if_namespace, keeps_if_port, keeps_if_group}
+use Rattle.configfs_tree.proofs.Kept.{names_same, none_of_test, placed_made, placed_removed, placed_others, placed_here, placed_was, subsystems_changed, count_changed, subsystem_put, namespace_put, namespace_free, port_put, one_put, one_removed}
+use Rattle.configfs_tree.proofs.Holds.{Holds, refuses, accepted, holds_row, holds_end, holds_last, holds_either, holds_unless, holds_if_subsystem, holds_if_namespace, holds_if_port, holds_if_group, holds_parsed}
 use Rattle.configfs_tree.proofs.Placing.{places_inserted, places_removed, places_updated, place_is_free, stands_at_none}
 use Rattle.configfs_tree.proofs.Held.{here, moved_same, enabled_kept, drained_kept, holder_holds, holding}
 use Rattle.std.specs.Prelude.{OnOk, OnErr, IfOk}
@@ -51,8 +52,8 @@ use Rattle.configfs_tree.specs.declared.namespaces.NamespacePut.TheVariants.{Pat
 use Rattle.configfs_tree.specs.declared.subsystems.SubsystemPut.{SubsystemPut}
 use Rattle.configfs_tree.specs.declared.subsystems.SubsystemPut.TheVariants.{AllowAnyHost, Serial, ModelName}
 use Rattle.configfs_tree.specs.declared.ports.AnaState.TheVariants as state
-use Rattle.configfs_tree.specs.declared.ports.PortPut.{PortPut}
-use Rattle.configfs_tree.specs.declared.ports.PortPut.TheVariants as port
+use Rattle.configfs_tree.specs.declared.ports.Address.{Address}
+use Rattle.configfs_tree.specs.declared.ports.Address.TheVariants as address
 use Rattle.configfs_tree.specs.declared.edits.Attr.{Attr}
 use Rattle.configfs_tree.specs.declared.edits.Attr.TheVariants as attr
 use Rattle.configfs_tree.specs.declared.edits.Folder.{Folder}
@@ -63,17 +64,21 @@ use Rattle.configfs_tree.specs.Table.{mkdir, rmdir, set, set_of_subsystem, set_o
 use Rattle.configfs_tree.specs.Table.{mkdir_host, mkdir_subsystem, mkdir_namespace, mkdir_port, mkdir_ana_group, rmdir_host, rmdir_subsystem, rmdir_namespace, rmdir_port, rmdir_ana_group}
 use Rattle.configfs_tree.specs.Table.{set_attr_allow_any_host, set_attr_serial, set_attr_model, set_device_path, set_device_uuid, set_device_nguid, set_ana_grpid, set_enable, set_addr_trtype, set_addr_adrfam, set_addr_treq, set_addr_traddr, set_addr_trsvcid, set_ana_state}
 
+-- what an outcome leaves, if it accepts, keeps the standing facts
+abbrev pub Keeps : Outcome → Type 0
+Keeps o = Holds (λ u change. IsStanding u) o
+
 -- ---- mkdir
 k_mkdir_host : (t : Tree) (host : List ℕ) → IsStanding t → Keeps (mkdir_host t host)
 unfolding mkdir_host
-k_mkdir_host t host h = keeps_row _ _ _ _ (λ _. keeps_last _ _ _ _ (λ _. record { subsystems = h.subsystems; ports = h.ports; group_one = h.group_one; holders = h.holders }))
+k_mkdir_host t host h = holds_row _ _ _ _ (λ _. holds_last _ _ _ _ (λ _. record { subsystems = h.subsystems; ports = h.ports; group_one = h.group_one; holders = h.holders }))
 
 room_of : (a b : ℕ) → not (nat_lt a b) ≡ false → a < b
 room_of a b e = ltb-true a b (not-false (nat_lt a b) e)
 
 k_mkdir_subsystem : (t : Tree) (sub : List ℕ) → IsStanding t → Keeps (mkdir_subsystem t sub)
 unfolding mkdir_subsystem
-k_mkdir_subsystem t sub h = keeps_row _ _ _ _ (λ _. keeps_row _ _ _ _ (λ absent. keeps_last _ _ _ _ (λ room.
+k_mkdir_subsystem t sub h = holds_row _ _ _ _ (λ _. holds_row _ _ _ _ (λ absent. holds_last _ _ _ _ (λ room.
     let m = t.settings.subsystems in
     let at = lowest_free MAX_SUBSYSTEMS 0 (subsystem_place_taken t) in
     let f = place_is_free nat_list_cmp_total names_same (λ (s : SubsystemRow). s.nqn) (λ (s : SubsystemRow). s.at) MAX_SUBSYSTEMS m (room_of (map.len m) MAX_SUBSYSTEMS room) in
@@ -85,7 +90,7 @@ k_mkdir_subsystem t sub h = keeps_row _ _ _ _ (λ _. keeps_row _ _ _ _ (λ absen
 
 k_mkdir_namespace : (t : Tree) (sub : List ℕ) (nsid : ℕ) → IsStanding t → Keeps (mkdir_namespace t sub nsid)
 unfolding mkdir_namespace
-k_mkdir_namespace t sub nsid h = keeps_if_subsystem _ _ (λ s e. keeps_row _ _ _ _ (λ _. keeps_last _ _ _ _ (λ absent.
+k_mkdir_namespace t sub nsid h = holds_if_subsystem _ _ (λ s e. holds_row _ _ _ _ (λ _. holds_last _ _ _ _ (λ absent.
     let none = none_of_test (map.get s.namespaces nsid) absent in
     namespace_free t sub nsid (λ ns. map.insert ns nsid fresh_namespace) s e
     (λ ns j ne. get-insert_beside nat_cmp_total nat_cmp-IsAntisymmetric ns nsid fresh_namespace j ne)
@@ -94,7 +99,7 @@ k_mkdir_namespace t sub nsid h = keeps_if_subsystem _ _ (λ s e. keeps_row _ _ _
 
 k_mkdir_port : (t : Tree) (id : ℕ) → IsStanding t → Keeps (mkdir_port t id)
 unfolding mkdir_port
-k_mkdir_port t id h = keeps_row _ _ _ _ (λ _. keeps_last _ _ _ _ (λ room.
+k_mkdir_port t id h = holds_row _ _ _ _ (λ _. holds_last _ _ _ _ (λ room.
     let m = t.settings.ports in
     let at = lowest_free MAX_PORTS 0 (port_place_taken t) in
     let f = place_is_free nat_cmp_total nat_cmp-IsAntisymmetric (λ (p : PortRow). p.id) (λ (p : PortRow). p.at) MAX_PORTS m (room_of (map.len m) MAX_PORTS room) in
@@ -114,24 +119,24 @@ k_mkdir_port t id h = keeps_row _ _ _ _ (λ _. keeps_last _ _ _ _ (λ room.
 
 k_mkdir_ana_group : (t : Tree) (id group : ℕ) → IsStanding t → Keeps (mkdir_ana_group t id group)
 unfolding mkdir_ana_group
-k_mkdir_ana_group t id group h = keeps_if_port _ _ (λ p e. keeps_row _ _ _ _ (λ _. keeps_last _ _ _ _ (λ _.
+k_mkdir_ana_group t id group h = holds_if_port _ _ (λ p e. holds_row _ _ _ _ (λ _. holds_last _ _ _ _ (λ _.
     count_changed (on_port t id (put_group group state.Inaccessible)) (port_put t id (put_group group state.Inaccessible) (λ q. refl) (λ q. refl) (λ q one. one_put q group state.Inaccessible one) h))))
 
 -- ---- rmdir
 k_rmdir_host : (t : Tree) (host : List ℕ) → IsStanding t → Keeps (rmdir_host t host)
 unfolding rmdir_host
-k_rmdir_host t host h = keeps_row _ _ _ _ (λ _. keeps_last _ _ _ _ (λ _. record { subsystems = h.subsystems; ports = h.ports; group_one = h.group_one; holders = h.holders }))
+k_rmdir_host t host h = holds_row _ _ _ _ (λ _. holds_last _ _ _ _ (λ _. record { subsystems = h.subsystems; ports = h.ports; group_one = h.group_one; holders = h.holders }))
 
-left_false : (a b : Bool) → (a || b) ≡ false → a ≡ false
+pub left_false : (a b : Bool) → (a || b) ≡ false → a ≡ false
 left_false true b e = e
 left_false false b e = refl
 
-none_below : (n : ℕ) → nat_lt 0 n ≡ false → n ≡ 0
+pub none_below : (n : ℕ) → nat_lt 0 n ≡ false → n ≡ 0
 none_below n e = let low : n ≤ 0 = ltb-false 0 n e in omega arith
 
 k_rmdir_subsystem : (t : Tree) (sub : List ℕ) → IsStanding t → Keeps (rmdir_subsystem t sub)
 unfolding rmdir_subsystem
-k_rmdir_subsystem t sub h = keeps_if_subsystem _ _ (λ s e. keeps_row _ _ _ _ (λ _. keeps_last _ _ _ _ (λ unfilled.
+k_rmdir_subsystem t sub h = holds_if_subsystem _ _ (λ s e. holds_row _ _ _ _ (λ _. holds_last _ _ _ _ (λ unfilled.
     let m = t.settings.subsystems in
     let empty : s.namespaces ≡ map.empty = map.empty_of_len s.namespaces (none_below (map.len s.namespaces) (left_false (nat_lt 0 (map.len s.namespaces)) (nat_lt 0 (map.len s.allowed_hosts)) unfilled)) in
     subsystems_changed t (map.remove m sub)
@@ -148,7 +153,7 @@ free_of t s nsid n m found e free f = subst (λ (x : NamespaceRow). holds_path t
 
 k_rmdir_namespace : (t : Tree) (sub : List ℕ) (nsid : ℕ) → IsStanding t → Keeps (rmdir_namespace t sub nsid)
 unfolding rmdir_namespace
-k_rmdir_namespace t sub nsid h = keeps_if_subsystem _ _ (λ s e. keeps_if_namespace _ _ (λ n f. keeps_last _ _ _ _ (λ free.
+k_rmdir_namespace t sub nsid h = holds_if_subsystem _ _ (λ s e. holds_if_namespace _ _ (λ n f. holds_last _ _ _ _ (λ free.
     namespace_free t sub nsid (λ ns. map.remove ns nsid) s e
     (λ ns j ne. get-remove_beside nat_cmp_total nat_cmp-IsAntisymmetric ns nsid j ne)
     (λ m found. free_of t s nsid n m (map.get s.namespaces nsid) f free found)
@@ -156,7 +161,7 @@ k_rmdir_namespace t sub nsid h = keeps_if_subsystem _ _ (λ s e. keeps_if_namesp
 
 k_rmdir_port : (t : Tree) (id : ℕ) → IsStanding t → Keeps (rmdir_port t id)
 unfolding rmdir_port
-k_rmdir_port t id h = keeps_if_port _ _ (λ p e. keeps_row _ _ _ _ (λ _. keeps_last _ _ _ _ (λ _.
+k_rmdir_port t id h = holds_if_port _ _ (λ p e. holds_row _ _ _ _ (λ _. holds_last _ _ _ _ (λ _.
     let m = t.settings.ports in
     record {
       subsystems = h.subsystems;
@@ -170,7 +175,7 @@ k_rmdir_port t id h = keeps_if_port _ _ (λ p e. keeps_row _ _ _ _ (λ _. keeps_
 
 k_rmdir_ana_group : (t : Tree) (id group : ℕ) → IsStanding t → Keeps (rmdir_ana_group t id group)
 unfolding rmdir_ana_group
-k_rmdir_ana_group t id group h = keeps_if_port _ _ (λ p e. keeps_if_group _ _ (λ old. keeps_last _ _ _ _ (λ other.
+k_rmdir_ana_group t id group h = holds_if_port _ _ (λ p e. holds_if_group _ _ (λ old _. holds_last _ _ _ _ (λ other.
     count_changed (on_port t id (remove_group group)) (port_put t id (remove_group group) (λ q. refl) (λ q. refl) (λ q one. one_removed q group other one) h))))
 
 -- ---- set, on a subsystem
@@ -181,42 +186,38 @@ attr_put t sub (ModelName value) h = subsystem_put t sub (put_in_subsystem (Mode
 
 k_set_of_subsystem : (t : Tree) (sub : List ℕ) (a : Attr) (value : List ℕ) → IsStanding t → Keeps (set_of_subsystem t sub a value)
 unfolding set_attr_allow_any_host set_attr_serial set_attr_model
-k_set_of_subsystem t sub attr.AllowAnyHost value h = keeps_if_subsystem _ _ (λ s e. keeps_row _ _ _ _ (λ _. keeps_end _ _ _ (λ _. keeps_unless _ t _ _ h (λ _. attr_put t sub (AllowAnyHost (bytes_eq value (codes "1"))) h))))
-k_set_of_subsystem t sub attr.Serial value h = keeps_if_subsystem _ _ (λ s e. keeps_end _ _ _ (λ _. keeps_unless _ t _ _ h (λ _. attr_put t sub (Serial value) h)))
-k_set_of_subsystem t sub attr.ModelName value h = keeps_if_subsystem _ _ (λ s e. keeps_end _ _ _ (λ _. keeps_unless _ t _ _ h (λ _. attr_put t sub (ModelName value) h)))
+k_set_of_subsystem t sub attr.AllowAnyHost value h = holds_if_subsystem _ _ (λ s e. holds_row _ _ _ _ (λ _. holds_end _ _ _ (λ _. holds_unless _ t _ _ h (λ _. attr_put t sub (AllowAnyHost (bytes_eq value (codes "1"))) h))))
+k_set_of_subsystem t sub attr.Serial value h = holds_if_subsystem _ _ (λ s e. holds_end _ _ _ (λ _. holds_unless _ t _ _ h (λ _. attr_put t sub (Serial value) h)))
+k_set_of_subsystem t sub attr.ModelName value h = holds_if_subsystem _ _ (λ s e. holds_end _ _ _ (λ _. holds_unless _ t _ _ h (λ _. attr_put t sub (ModelName value) h)))
 k_set_of_subsystem t sub a value h = refuses _
 
 -- ---- set, on a namespace
 k_set_device_path : (t : Tree) (sub : List ℕ) (nsid : ℕ) (value : List ℕ) → IsStanding t → Keeps (set_device_path t sub nsid value)
 unfolding set_device_path
-k_set_device_path t sub nsid value h = keeps_if_subsystem _ _ (λ s e. keeps_if_namespace _ _ (λ n f. keeps_row _ _ _ _ (λ free. keeps_end _ _ _ (λ _. keeps_unless _ t _ _ h (λ _.
+k_set_device_path t sub nsid value h = holds_if_subsystem _ _ (λ s e. holds_if_namespace _ _ (λ n f. holds_row _ _ _ _ (λ free. holds_end _ _ _ (λ _. holds_unless _ t _ _ h (λ _.
     namespace_free t sub nsid (λ ns. update_at ns nsid (put_in (Path value))) s e
     (λ ns j ne. get-update_beside nat_cmp_total nat_cmp-IsAntisymmetric ns nsid (put_in (Path value)) j ne)
     (λ m found. free_of t s nsid n m (map.get s.namespaces nsid) f free found)
     (λ m found. ap (λ (x : NamespaceRow). x.enabled) (sym (some_same (put_in (Path value) n) m (sym (get-update_at nat_cmp_total nat_cmp-IsAntisymmetric s.namespaces nsid (put_in (Path value)) n f) ∙ found)))
     ∙ left_false n.enabled (holds_path t.disks s.at nsid n.device_path) free) h)))))
 
-keeps_parsed : (found : Option (List ℕ)) (put : List ℕ → Outcome) → ((bytes : List ℕ) → Keeps (put bytes)) → Keeps (put_parsed found put)
-keeps_parsed None put h = refuses _
-keeps_parsed (Some bytes) put h = h bytes
-
 k_set_device_uuid : (t : Tree) (sub : List ℕ) (nsid : ℕ) (value : List ℕ) → IsStanding t → Keeps (set_device_uuid t sub nsid value)
 unfolding set_device_uuid
-k_set_device_uuid t sub nsid value h = keeps_if_subsystem _ _ (λ s e. keeps_if_namespace _ _ (λ n f. keeps_end _ _ _ (λ _. keeps_parsed (parsed value) (λ (uuid : List ℕ). unless_stands (bytes_eq n.uuid uuid) t (put_on t sub s.at nsid (Uuid uuid))) (λ bytes. keeps_unless _ t _ _ h (λ _.
+k_set_device_uuid t sub nsid value h = holds_if_subsystem _ _ (λ s e. holds_if_namespace _ _ (λ n f. holds_end _ _ _ (λ _. holds_parsed (parsed value) (λ (uuid : List ℕ). unless_stands (bytes_eq n.uuid uuid) t (put_on t sub s.at nsid (Uuid uuid))) (λ bytes. holds_unless _ t _ _ h (λ _.
     namespace_put t sub nsid (Uuid bytes) s n e f refl (λ on. on) h)))))
 
 k_set_device_nguid : (t : Tree) (sub : List ℕ) (nsid : ℕ) (value : List ℕ) → IsStanding t → Keeps (set_device_nguid t sub nsid value)
 unfolding set_device_nguid
-k_set_device_nguid t sub nsid value h = keeps_if_subsystem _ _ (λ s e. keeps_if_namespace _ _ (λ n f. keeps_end _ _ _ (λ _. keeps_parsed (parsed value) (λ (nguid : List ℕ). unless_stands (bytes_eq n.nguid nguid) t (put_on t sub s.at nsid (Nguid nguid))) (λ bytes. keeps_unless _ t _ _ h (λ _.
+k_set_device_nguid t sub nsid value h = holds_if_subsystem _ _ (λ s e. holds_if_namespace _ _ (λ n f. holds_end _ _ _ (λ _. holds_parsed (parsed value) (λ (nguid : List ℕ). unless_stands (bytes_eq n.nguid nguid) t (put_on t sub s.at nsid (Nguid nguid))) (λ bytes. holds_unless _ t _ _ h (λ _.
     namespace_put t sub nsid (Nguid bytes) s n e f refl (λ on. on) h)))))
 
 keeps_group_of : (t : Tree) (sub : List ℕ) (nsid : ℕ) (s : SubsystemRow) (n : NamespaceRow) (group : Option ℕ) → map.get t.settings.subsystems sub ≡ Some s → map.get s.namespaces nsid ≡ Some n → IsStanding t → Keeps (put_group_of t sub nsid s n group)
 keeps_group_of t sub nsid s n None e f h = refuses _
-keeps_group_of t sub nsid s n (Some group) e f h = keeps_unless _ t _ _ h (λ _. count_changed (on_subsystem t sub (put_namespace nsid (Group group))) (namespace_put t sub nsid (Group group) s n e f refl (λ on. on) h))
+keeps_group_of t sub nsid s n (Some group) e f h = holds_unless _ t _ _ h (λ _. count_changed (on_subsystem t sub (put_namespace nsid (Group group))) (namespace_put t sub nsid (Group group) s n e f refl (λ on. on) h))
 
 k_set_ana_grpid : (t : Tree) (sub : List ℕ) (nsid : ℕ) (value : List ℕ) → IsStanding t → Keeps (set_ana_grpid t sub nsid value)
 unfolding set_ana_grpid
-k_set_ana_grpid t sub nsid value h = keeps_if_subsystem _ _ (λ s e. keeps_if_namespace _ _ (λ n f. keeps_group_of t sub nsid s n (group_named value) e f h))
+k_set_ana_grpid t sub nsid value h = holds_if_subsystem _ _ (λ s e. holds_if_namespace _ _ (λ n f. keeps_group_of t sub nsid s n (group_named value) e f h))
 
 -- the disk of a path that is free
 record FreeDisk (disks : List DiskRow) (q : Option (List ℕ)) : Type 0 where
@@ -239,7 +240,7 @@ condition_off true c off e = absurd (both_ways true off refl)
 condition_off false c off e = e
 
 keeps_enabled : (t : Tree) (sub : List ℕ) (nsid : ℕ) (s : SubsystemRow) (n : NamespaceRow) → map.get t.settings.subsystems sub ≡ Some s → map.get s.namespaces nsid ≡ Some n → (not n.enabled && not (path_names_disk t n)) ≡ false → (not n.enabled && path_is_held t n) ≡ false → IsStanding t → Keeps (enabled t sub nsid s n)
-keeps_enabled t sub nsid s n e f named unheld h = keeps_unless _ t _ _ h (λ off.
+keeps_enabled t sub nsid s n e f named unheld h = holds_unless _ t _ _ h (λ off.
     let m = t.settings.subsystems in
     let g = λ (ns : FinMap nat_cmp NamespaceRow). update_at ns nsid (put_in (Enabled true)) in
     let x = free_disk_of t.disks n.device_path (not-false (path_names_disk t n) (condition_off n.enabled (not (path_names_disk t n)) off named)) (condition_off n.enabled (path_is_held t n) off unheld) in
@@ -256,13 +257,13 @@ keeps_enabled t sub nsid s n e f named unheld h = keeps_unless _ t _ _ h (λ off
     })
 
 keeps_disabled : (t : Tree) (sub : List ℕ) (nsid : ℕ) (s : SubsystemRow) (n : NamespaceRow) → map.get t.settings.subsystems sub ≡ Some s → map.get s.namespaces nsid ≡ Some n → IsStanding t → Keeps (disabled t sub nsid s n)
-keeps_disabled t sub nsid s n e f h = keeps_unless _ t _ _ h (λ _. namespace_put t sub nsid (Enabled false) s n e f refl (λ on. absurd (both_ways false refl on)) h)
+keeps_disabled t sub nsid s n e f h = holds_unless _ t _ _ h (λ _. namespace_put t sub nsid (Enabled false) s n e f refl (λ on. absurd (both_ways false refl on)) h)
 
 pub k_set_enable : (t : Tree) (sub : List ℕ) (nsid : ℕ) (value : List ℕ) → IsStanding t → Keeps (set_enable t sub nsid value)
 unfolding set_enable
-k_set_enable t sub nsid value h = keeps_if_subsystem _ _ (λ s e. keeps_if_namespace _ _ (λ n f. keeps_either _ _ _
+k_set_enable t sub nsid value h = holds_if_subsystem _ _ (λ s e. holds_if_namespace _ _ (λ n f. holds_either _ _ _
     (keeps_disabled t sub nsid s n e f h)
-    (keeps_row _ _ _ _ (λ _. keeps_row _ _ _ _ (λ _. keeps_row _ _ _ _ (λ named. keeps_end _ _ _ (λ unheld. keeps_enabled t sub nsid s n e f named unheld h)))))))
+    (holds_row _ _ _ _ (λ _. holds_row _ _ _ _ (λ _. holds_row _ _ _ _ (λ named. holds_end _ _ _ (λ unheld. keeps_enabled t sub nsid s n e f named unheld h)))))))
 
 k_set_of_namespace : (t : Tree) (sub : List ℕ) (nsid : ℕ) (a : Attr) (value : List ℕ) → IsStanding t → Keeps (set_of_namespace t sub nsid a value)
 k_set_of_namespace t sub nsid attr.DevicePath value h = k_set_device_path t sub nsid value h
@@ -273,33 +274,33 @@ k_set_of_namespace t sub nsid attr.Enable value h = k_set_enable t sub nsid valu
 k_set_of_namespace t sub nsid a value h = refuses _
 
 -- ---- set, on a port
-address_put : (t : Tree) (id : ℕ) (put : PortPut) → IsStanding t → IsStanding (on_port t id (put_in_port put))
-address_put t id (port.Trtype value) h = port_put t id (put_in_port (port.Trtype value)) (λ p. refl) (λ p. refl) (λ p one. one) h
-address_put t id (port.Adrfam value) h = port_put t id (put_in_port (port.Adrfam value)) (λ p. refl) (λ p. refl) (λ p one. one) h
-address_put t id (port.Traddr value) h = port_put t id (put_in_port (port.Traddr value)) (λ p. refl) (λ p. refl) (λ p one. one) h
-address_put t id (port.Trsvcid value) h = port_put t id (put_in_port (port.Trsvcid value)) (λ p. refl) (λ p. refl) (λ p one. one) h
-address_put t id (port.Treq value) h = port_put t id (put_in_port (port.Treq value)) (λ p. refl) (λ p. refl) (λ p one. one) h
+address_put : (t : Tree) (id : ℕ) (a : Address) (value : List ℕ) → IsStanding t → IsStanding (on_port t id (with_address a value))
+address_put t id address.Trtype value h = port_put t id (with_address address.Trtype value) (λ p. refl) (λ p. refl) (λ p one. one) h
+address_put t id address.Adrfam value h = port_put t id (with_address address.Adrfam value) (λ p. refl) (λ p. refl) (λ p one. one) h
+address_put t id address.Traddr value h = port_put t id (with_address address.Traddr value) (λ p. refl) (λ p. refl) (λ p one. one) h
+address_put t id address.Trsvcid value h = port_put t id (with_address address.Trsvcid value) (λ p. refl) (λ p. refl) (λ p one. one) h
+address_put t id address.Treq value h = port_put t id (with_address address.Treq value) (λ p. refl) (λ p. refl) (λ p one. one) h
 
-keeps_address : (t : Tree) (id : ℕ) (was : PortRow → List ℕ) (put : List ℕ → PortPut) (good : Bool) (value : List ℕ) → IsStanding t → Keeps (set_address t id was put good value)
-keeps_address t id was put good value h = keeps_if_port _ _ (λ p e. keeps_row _ _ _ _ (λ _. keeps_end _ _ _ (λ _. keeps_unless _ t _ _ h (λ _. address_put t id (put value) h))))
+keeps_address : (t : Tree) (id : ℕ) (a : Address) (good : Bool) (value : List ℕ) → IsStanding t → Keeps (set_address t id a good value)
+keeps_address t id a good value h = holds_if_port _ _ (λ p e. holds_row _ _ _ _ (λ _. holds_end _ _ _ (λ _. holds_unless _ t _ _ h (λ _. address_put t id a value h))))
 
 k_set_of_port : (t : Tree) (id : ℕ) (a : Attr) (value : List ℕ) → IsStanding t → Keeps (set_of_port t id a value)
 unfolding set_addr_trtype set_addr_adrfam set_addr_treq set_addr_traddr set_addr_trsvcid
-k_set_of_port t id attr.Trtype value h = keeps_address t id (λ (p : PortRow). p.trtype) port.Trtype (one_of value (codes "loop" ∷ codes "tcp" ∷ codes "rdma" ∷ codes "fc" ∷ [])) value h
-k_set_of_port t id attr.Adrfam value h = keeps_address t id (λ (p : PortRow). p.adrfam) port.Adrfam ((length value == 0) || one_of value (codes "ipv4" ∷ codes "ipv6" ∷ codes "ib" ∷ codes "fc" ∷ codes "loop" ∷ codes "pcie" ∷ [])) value h
-k_set_of_port t id attr.Treq value h = keeps_address t id (λ (p : PortRow). p.treq) port.Treq (one_of value (codes "not specified" ∷ codes "required" ∷ codes "not required" ∷ [])) value h
-k_set_of_port t id attr.Traddr value h = keeps_address t id (λ (p : PortRow). p.traddr) port.Traddr (not (nat_lt TRADDR_LEN (length value))) value h
-k_set_of_port t id attr.Trsvcid value h = keeps_address t id (λ (p : PortRow). p.trsvcid) port.Trsvcid (not (nat_lt TRSVCID_LEN (length value))) value h
+k_set_of_port t id attr.Trtype value h = keeps_address t id address.Trtype _ value h
+k_set_of_port t id attr.Adrfam value h = keeps_address t id address.Adrfam _ value h
+k_set_of_port t id attr.Treq value h = keeps_address t id address.Treq _ value h
+k_set_of_port t id attr.Traddr value h = keeps_address t id address.Traddr _ value h
+k_set_of_port t id attr.Trsvcid value h = keeps_address t id address.Trsvcid _ value h
 k_set_of_port t id a value h = refuses _
 
 -- ---- set, on an ANA group
 keeps_state : (t : Tree) (id group : ℕ) (p : PortRow) (old : AnaState) (new : Option AnaState) → IsStanding t → Keeps (put_state t id group p old new)
 keeps_state t id group p old None h = refuses _
-keeps_state t id group p old (Some new) h = keeps_unless _ t _ _ h (λ _. count_changed (on_port t id (put_group group new)) (port_put t id (put_group group new) (λ q. refl) (λ q. refl) (λ q one. one_put q group new one) h))
+keeps_state t id group p old (Some new) h = holds_unless _ t _ _ h (λ _. count_changed (on_port t id (put_group group new)) (port_put t id (put_group group new) (λ q. refl) (λ q. refl) (λ q one. one_put q group new one) h))
 
 k_set_ana_state : (t : Tree) (id group : ℕ) (value : List ℕ) → IsStanding t → Keeps (set_ana_state t id group value)
 unfolding set_ana_state
-k_set_ana_state t id group value h = keeps_if_port _ _ (λ p e. keeps_if_group _ _ (λ old. keeps_state t id group p old (state_named value) h))
+k_set_ana_state t id group value h = holds_if_port _ _ (λ p e. holds_if_group _ _ (λ old _. keeps_state t id group p old (state_named value) h))
 
 k_set_of_group : (t : Tree) (id group : ℕ) (a : Attr) (value : List ℕ) → IsStanding t → Keeps (set_of_group t id group a value)
 k_set_of_group t id group attr.AnaState value h = k_set_ana_state t id group value h

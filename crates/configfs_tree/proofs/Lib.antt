@@ -6,5 +6,9 @@ pub mod Texts
 pub mod Gets
 pub mod Placing
 pub mod Held
+pub mod Holds
 pub mod Kept
 pub mod KeptTable
+pub mod Slots
+pub mod Tells
+pub mod TellsTable

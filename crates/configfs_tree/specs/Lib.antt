@@ -1,5 +1,6 @@
 pub mod Asked
 pub mod Drained
+pub mod Errnos
 pub mod Gives
 pub mod Holders
 pub mod Links
@@ -14,4 +15,5 @@ pub mod Standing
 pub mod Start
 pub mod Subsystems
 pub mod Table
+pub mod Told
 pub mod Values

@@ -5,8 +5,8 @@ use Rattle.configfs_tree.specs.Maps.{kept_or_taken}
 use Rattle.configfs_tree.specs.declared.ports.AnaState.{AnaState}
 use Rattle.configfs_tree.specs.declared.ports.AnaState.TheVariants as state
 use Rattle.configfs_tree.specs.declared.ports.PortRow.{PortRow}
-use Rattle.configfs_tree.specs.declared.ports.PortPut.{PortPut}
-use Rattle.configfs_tree.specs.declared.ports.PortPut.TheVariants as put
+use Rattle.configfs_tree.specs.declared.ports.Address.{Address}
+use Rattle.configfs_tree.specs.declared.ports.Address.TheVariants as address
 
 abbrev pub fresh_port : ℕ → ℕ → PortRow
 fresh_port id at = record {
@@ -21,12 +21,21 @@ fresh_port id at = record {
   groups = map.insert map.empty 1 state.Optimized;
 }
 
-abbrev pub put_in_port : PortPut → PortRow → PortRow
-put_in_port (put.Trtype value) p = record p { trtype = value }
-put_in_port (put.Adrfam value) p = record p { adrfam = value }
-put_in_port (put.Traddr value) p = record p { traddr = value }
-put_in_port (put.Trsvcid value) p = record p { trsvcid = value }
-put_in_port (put.Treq value) p = record p { treq = value }
+-- an address of a port
+abbrev pub address_of : Address → PortRow → List ℕ
+address_of address.Trtype p = p.trtype
+address_of address.Adrfam p = p.adrfam
+address_of address.Traddr p = p.traddr
+address_of address.Trsvcid p = p.trsvcid
+address_of address.Treq p = p.treq
+
+-- a port with a new address
+abbrev pub with_address : Address → List ℕ → PortRow → PortRow
+with_address address.Trtype value p = record p { trtype = value }
+with_address address.Adrfam value p = record p { adrfam = value }
+with_address address.Traddr value p = record p { traddr = value }
+with_address address.Trsvcid value p = record p { trsvcid = value }
+with_address address.Treq value p = record p { treq = value }
 
 -- the link to a subsystem made, or taken away
 abbrev pub put_link : List ℕ → Bool → PortRow → PortRow

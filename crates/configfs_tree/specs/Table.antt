@@ -1,11 +1,11 @@
 -- The table of edits on folders, in the table's order. Each edit is decided by the first of its rows, from the top, whose condition holds. If none holds it is accepted. A folder that must be there and isn't is ENOENT, before any row.
-use Rattle.std.specs.Prelude.{ℕ, ◌==◌, ◌&&◌, ◌||◌, not, nat_lt, Bool, true, false, List, [], ◌∷◌, length, codes, Option, Some, None}
+use Rattle.std.specs.Prelude.{ℕ, ◌==◌, ◌&&◌, ◌||◌, not, nat_lt, nat_le, Bool, true, false, List, [], ◌∷◌, length, codes, Option, Some, None}
 use Rattle.std.specs.Str.{bytes_eq}
 use Rattle.std.specs.FinMap as map
 use Rattle.configfs_tree.specs.Nqns.{discovery_nqn}
-use Rattle.configfs_tree.specs.Values.{is_path, one_of, group_named, state_named, same_state}
+use Rattle.configfs_tree.specs.Values.{is_path, one_of, group_named, state_named, same_state, same_bool}
 use Rattle.configfs_tree.specs.Subsystems.{fresh_subsystem, put_in_subsystem, put_namespace, add_namespace, remove_namespace}
-use Rattle.configfs_tree.specs.Ports.{fresh_port, put_in_port, put_group, remove_group}
+use Rattle.configfs_tree.specs.Ports.{fresh_port, address_of, with_address, put_group, remove_group}
 use Rattle.configfs_tree.specs.Asked.{is_busy, is_draining, path_names_disk, path_is_held, some_port_links, some_subsystem_allows, controller_at_subsystem, controller_at_port, subsystem_place_taken, port_place_taken, has_path}
 use Rattle.configfs_tree.specs.Holders.{hold, path_or_empty}
 use Rattle.configfs_tree.specs.Places.{lowest_free}
@@ -20,8 +20,8 @@ use Rattle.configfs_tree.specs.declared.subsystems.SubsystemPut.TheVariants.{All
 use Rattle.configfs_tree.specs.declared.ports.AnaState.{AnaState}
 use Rattle.configfs_tree.specs.declared.ports.AnaState.TheVariants as state
 use Rattle.configfs_tree.specs.declared.ports.PortRow.{PortRow}
-use Rattle.configfs_tree.specs.declared.ports.PortPut.{PortPut}
-use Rattle.configfs_tree.specs.declared.ports.PortPut.TheVariants as port
+use Rattle.configfs_tree.specs.declared.ports.Address.{Address}
+use Rattle.configfs_tree.specs.declared.ports.Address.TheVariants.{Trtype, Adrfam, Traddr, Trsvcid, Treq}
 use Rattle.configfs_tree.specs.declared.edits.Attr.{Attr}
 use Rattle.configfs_tree.specs.declared.edits.Attr.TheVariants as attr
 use Rattle.configfs_tree.specs.declared.edits.Folder.{Folder}
@@ -117,10 +117,7 @@ set_attr_allow_any_host t sub value = in_subsystem t sub (λ s.
     ∷ (any && nat_lt 0 (map.len s.allowed_hosts), EINVAL)
     ∷ [])
     (unless_stands (same_bool s.allow_any_host any) t
-    (Accepts (on_subsystem t sub (put_in_subsystem (AllowAnyHost any))) (touching (touches.Subsystem s.at))))) where
-      same_bool : Bool → Bool → Bool
-      same_bool true b = b
-      same_bool false b = not b
+    (Accepts (on_subsystem t sub (put_in_subsystem (AllowAnyHost any))) (touching (touches.Subsystem s.at)))))
 
 unfoldable pub set_attr_serial : Tree → List ℕ → List ℕ → Outcome
 set_attr_serial t sub value = in_subsystem t sub (λ s. first_of (
@@ -197,31 +194,31 @@ set_enable t sub nsid value = in_namespace t sub nsid (λ s n.
     (enabled t sub nsid s n)))
 
 -- ---- set, on a port: an address of a port that links a subsystem stands
-abbrev pub set_address : Tree → ℕ → (PortRow → List ℕ) → (List ℕ → PortPut) → Bool → List ℕ → Outcome
-set_address t id was put good value = in_port t id (λ p. first_of (
+abbrev pub set_address : Tree → ℕ → Address → Bool → List ℕ → Outcome
+set_address t id address good value = in_port t id (λ p. first_of (
     (nat_lt 0 (map.len p.links), EACCES)
     ∷ (not good, EINVAL)
     ∷ [])
-    (unless_stands (bytes_eq (was p) value) t
-    (Accepts (on_port t id (put_in_port (put value))) (touching (touches.Port p.at)))))
+    (unless_stands (bytes_eq (address_of address p) value) t
+    (Accepts (on_port t id (with_address address value)) (touching (touches.Port p.at)))))
 
 unfoldable pub set_addr_trtype : Tree → ℕ → List ℕ → Outcome
-set_addr_trtype t id value = set_address t id (λ p. p.trtype) port.Trtype
+set_addr_trtype t id value = set_address t id Trtype
     (one_of value (codes "loop" ∷ codes "tcp" ∷ codes "rdma" ∷ codes "fc" ∷ [])) value
 
 unfoldable pub set_addr_adrfam : Tree → ℕ → List ℕ → Outcome
-set_addr_adrfam t id value = set_address t id (λ p. p.adrfam) port.Adrfam
+set_addr_adrfam t id value = set_address t id Adrfam
     ((length value == 0) || one_of value (codes "ipv4" ∷ codes "ipv6" ∷ codes "ib" ∷ codes "fc" ∷ codes "loop" ∷ codes "pcie" ∷ [])) value
 
 unfoldable pub set_addr_treq : Tree → ℕ → List ℕ → Outcome
-set_addr_treq t id value = set_address t id (λ p. p.treq) port.Treq
+set_addr_treq t id value = set_address t id Treq
     (one_of value (codes "not specified" ∷ codes "required" ∷ codes "not required" ∷ [])) value
 
 unfoldable pub set_addr_traddr : Tree → ℕ → List ℕ → Outcome
-set_addr_traddr t id value = set_address t id (λ p. p.traddr) port.Traddr (not (nat_lt TRADDR_LEN (length value))) value
+set_addr_traddr t id value = set_address t id Traddr (nat_le (length value) TRADDR_LEN) value
 
 unfoldable pub set_addr_trsvcid : Tree → ℕ → List ℕ → Outcome
-set_addr_trsvcid t id value = set_address t id (λ p. p.trsvcid) port.Trsvcid (not (nat_lt TRSVCID_LEN (length value))) value
+set_addr_trsvcid t id value = set_address t id Trsvcid (nat_le (length value) TRSVCID_LEN) value
 
 -- ---- set, on an ANA group: an ANA change of the port, where the value changes
 abbrev pub put_state : Tree → ℕ → ℕ → PortRow → AnaState → Option AnaState → Outcome

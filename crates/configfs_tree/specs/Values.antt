@@ -1,5 +1,5 @@
 -- What the texts of attributes mean.
-use Rattle.std.specs.Prelude.{ℕ, ◌+◌, ◌*◌, ◌-◌, ◌==◌, ◌&&◌, not, nat_lt, nat_le, Bool, List, [], ◌∷◌, length, Option, Some, None, slice_index, codes, if◌then◌else◌}
+use Rattle.std.specs.Prelude.{ℕ, ◌+◌, ◌*◌, ◌-◌, ◌==◌, ◌&&◌, not, nat_lt, nat_le, Bool, true, false, List, [], ◌∷◌, length, Option, Some, None, slice_index, codes, if◌then◌else◌}
 use Rattle.std.specs.List.{list_any, list_all}
 use Rattle.std.specs.Str.{bytes_eq}
 use Rattle.configfs_tree.specs.declared.limits.TheConstants.{PATH_LEN, MAX_ANA_GROUPS}
@@ -49,6 +49,10 @@ state_number state.Changing = 15
 
 abbrev pub same_state : AnaState → AnaState → Bool
 same_state a b = state_number a == state_number b
+
+abbrev pub same_bool : Bool → Bool → Bool
+same_bool true b = b
+same_bool false b = not b
 
 -- the state that a text names
 abbrev pub state_named : List ℕ → Option AnaState

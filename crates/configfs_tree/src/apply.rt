@@ -1,8 +1,9 @@
-ghost use Rattle.std.specs.Prelude.{◌≡◌, IsTrue};
+ghost use Rattle.std.specs.Prelude.{◌≡◌, IsTrue, IfOk};
 ghost use Rattle.configfs_tree.specs.Asked.{is_fitting};
 ghost use Rattle.configfs_tree.specs.Gives.{Gives, GivesErrno, with_errno};
 ghost use Rattle.configfs_tree.specs.Standing.{IsStanding};
 ghost use Rattle.configfs_tree.specs.Table.{edit_outcome, mkdir, rmdir, set_of_subsystem, set_of_namespace, set_of_port, set_of_group};
+ghost use Rattle.configfs_tree.specs.Told.{Tells};
 ghost use Rattle.configfs_tree.specs.Values.{is_text};
 
 use crate::edits::{Attr, Change, Errno, Folder, FolderEdit, Refused};
@@ -164,6 +165,7 @@ impl Tree {
         requires { IsTrue (is_fitting e.now) }
         ensures gives { Gives (edit_outcome self.old e.now) self.old result self.new }
         ensures stands { IsStanding self.old → IsStanding self.new }
+        ensures tells { IfOk result (λ change. Tells self.old self.new change) }
     {
         self.edit_folder(alloc, e)
     }

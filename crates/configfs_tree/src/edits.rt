@@ -1,6 +1,7 @@
 ghost use Rattle.std.specs.Prelude.{◌≡◌, ◌&&◌};
 ghost use Rattle.configfs_tree.specs.Outcome.{nothing, touching, namespace_change, port_change, group_change};
 ghost use Rattle.configfs_tree.specs.Asked.{fits};
+ghost use Rattle.configfs_tree.specs.Errnos.{name_of};
 
 use crate::nqn::Nqn;
 use mem_bdev::Name;
@@ -72,6 +73,24 @@ pub enum Errno {
     EINVAL,
     ENOTEMPTY,
     ENOSPC,
+}
+
+impl Errno {
+    /// The errno's name in Linux, as a journal has it.
+    pub fn name(&self) -> &'static str
+        ensures { result.now ≡ name_of self.now }
+    {
+        match self {
+            Errno::EPERM => "EPERM",
+            Errno::ENOENT => "ENOENT",
+            Errno::EACCES => "EACCES",
+            Errno::EBUSY => "EBUSY",
+            Errno::EEXIST => "EEXIST",
+            Errno::EINVAL => "EINVAL",
+            Errno::ENOTEMPTY => "ENOTEMPTY",
+            Errno::ENOSPC => "ENOSPC",
+        }
+    }
 }
 
 /// Why an edit was not made: by the table of edits, or for want of memory. Either leaves the

@@ -25,6 +25,8 @@ mod ports;
 mod subsystem_edits;
 mod subsystems;
 #[cfg(test)]
+mod test_rows;
+#[cfg(test)]
 mod tests;
 mod tree;
 mod values;
@@ -40,6 +42,6 @@ pub use links::{admits_host, serves};
 pub use names::Names;
 pub use namespaces::{NamespacePut, NamespaceRow, Namespaces, Phase};
 pub use nqn::Nqn;
-pub use ports::{AnaState, Groups, PortPut, PortRow, Ports};
+pub use ports::{Address, AnaState, Groups, PortRow, Ports};
 pub use subsystems::{SubsystemPut, SubsystemRow, Subsystems};
 pub use tree::{Attached, Settings, Tree};

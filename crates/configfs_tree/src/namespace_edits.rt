@@ -1,10 +1,11 @@
 // Edits of namespaces, each by its rows of the table, and the end of a drain.
-ghost use Rattle.std.specs.Prelude.{◌≡◌, Some, codes, IsTrue};
+ghost use Rattle.std.specs.Prelude.{◌≡◌, Some, codes, IsTrue, IfOk};
 ghost use Rattle.configfs_tree.specs.Drained.{drained};
 ghost use Rattle.configfs_tree.specs.Gives.{Gives, GivesErrno};
 ghost use Rattle.configfs_tree.specs.Phases.{phase_at};
 ghost use Rattle.configfs_tree.specs.Standing.{IsStanding};
 ghost use Rattle.configfs_tree.specs.Table.{mkdir_namespace, rmdir_namespace, set_device_path, set_device_uuid, set_device_nguid, set_ana_grpid, set_enable};
+ghost use Rattle.configfs_tree.specs.Told.{Tells};
 ghost use Rattle.configfs_tree.specs.Values.{is_text};
 
 use crate::disks::Holder;
@@ -235,6 +236,7 @@ impl Tree {
     pub fn disable(&mut self, sub: &Nqn, nsid: u32) -> Result<Change, Errno>
         ensures gives { GivesErrno (set_enable self.old sub.now nsid (codes "0")) self.old result self.new }
         ensures stands { IsStanding self.old → IsStanding self.new }
+        ensures tells { IfOk result (λ change. Tells self.old self.new change) }
     {
         self.set_enable(sub, nsid, b"0")
     }

@@ -1,10 +1,10 @@
 // Edits of ports and their ANA groups, each by its rows of the table.
 ghost use Rattle.configfs_tree.specs.Gives.{Gives, GivesErrno};
-ghost use Rattle.configfs_tree.specs.Table.{mkdir_port, rmdir_port, mkdir_ana_group, rmdir_ana_group, set_addr_trtype, set_addr_adrfam, set_addr_treq, set_addr_traddr, set_addr_trsvcid, set_ana_state};
+ghost use Rattle.configfs_tree.specs.Table.{mkdir_port, rmdir_port, mkdir_ana_group, rmdir_ana_group, set_address, set_addr_trtype, set_addr_adrfam, set_addr_treq, set_addr_traddr, set_addr_trsvcid, set_ana_state};
 
 use crate::edits::{Change, Errno, Refused, Touched};
 use crate::limits::{MAX_ANA_GROUPS, MAX_PORTS, TRADDR_LEN, TRSVCID_LEN};
-use crate::ports::{AnaState, PortPut, PortRow};
+use crate::ports::{Address, AnaState, PortRow};
 use crate::tree::{Tree, raised};
 use crate::values::{is_adrfam, is_treq, is_trtype};
 use mem_bdev::Name;
@@ -95,7 +95,39 @@ impl Tree {
         Ok(Change::of_port(at, group))
     }
 
-    #[tactic(auto, unfolding(crate::specs::Table::set_addr_trtype, crate::specs::Outcome::first_of, crate::specs::Outcome::unless_stands, crate::specs::Outcome::if_port))]
+    // Sets an address, where the value is good.
+    #[tactic(auto, unfolding(crate::specs::Outcome::first_of, crate::specs::Outcome::unless_stands, crate::specs::Outcome::if_port))]
+    fn set_address(
+        &mut self,
+        alloc: Global,
+        id: u16,
+        address: Address,
+        good: bool,
+        value: &[u8],
+    ) -> Result<Change, Refused>
+        ensures { Gives (set_address self.old id address good value.now) self.old result self.new }
+    {
+        let Some(row) = self.settings.ports.get(id) else {
+            return Err(Refused::Errno(Errno::ENOENT));
+        };
+        let at = row.at;
+        if row.links.len() > 0 {
+            return Err(Refused::Errno(Errno::EACCES));
+        }
+        if !good {
+            return Err(Refused::Errno(Errno::EINVAL));
+        }
+        if row.address(address).as_bytes() == value {
+            return Ok(Change::none());
+        }
+        let Ok(copy) = Name::copied(alloc, value) else {
+            return Err(Refused::Memory);
+        };
+        self.settings.ports.put(id, address, copy);
+        Ok(Change::of(Touched::Port(at)))
+    }
+
+    #[tactic(auto, unfolding(crate::specs::Table::set_addr_trtype))]
     pub(crate) fn set_addr_trtype(
         &mut self,
         alloc: Global,
@@ -104,27 +136,10 @@ impl Tree {
     ) -> Result<Change, Refused>
         ensures { Gives (set_addr_trtype self.old id value.now) self.old result self.new }
     {
-        let Some(row) = self.settings.ports.get(id) else {
-            return Err(Refused::Errno(Errno::ENOENT));
-        };
-        let at = row.at;
-        if row.links.len() > 0 {
-            return Err(Refused::Errno(Errno::EACCES));
-        }
-        if !is_trtype(value) {
-            return Err(Refused::Errno(Errno::EINVAL));
-        }
-        if row.trtype.as_bytes() == value {
-            return Ok(Change::none());
-        }
-        let Ok(trtype) = Name::copied(alloc, value) else {
-            return Err(Refused::Memory);
-        };
-        self.settings.ports.put(id, PortPut::Trtype(trtype));
-        Ok(Change::of(Touched::Port(at)))
+        self.set_address(alloc, id, Address::Trtype, is_trtype(value), value)
     }
 
-    #[tactic(auto, unfolding(crate::specs::Table::set_addr_adrfam, crate::specs::Outcome::first_of, crate::specs::Outcome::unless_stands, crate::specs::Outcome::if_port))]
+    #[tactic(auto, unfolding(crate::specs::Table::set_addr_adrfam))]
     pub(crate) fn set_addr_adrfam(
         &mut self,
         alloc: Global,
@@ -133,27 +148,10 @@ impl Tree {
     ) -> Result<Change, Refused>
         ensures { Gives (set_addr_adrfam self.old id value.now) self.old result self.new }
     {
-        let Some(row) = self.settings.ports.get(id) else {
-            return Err(Refused::Errno(Errno::ENOENT));
-        };
-        let at = row.at;
-        if row.links.len() > 0 {
-            return Err(Refused::Errno(Errno::EACCES));
-        }
-        if !is_adrfam(value) {
-            return Err(Refused::Errno(Errno::EINVAL));
-        }
-        if row.adrfam.as_bytes() == value {
-            return Ok(Change::none());
-        }
-        let Ok(adrfam) = Name::copied(alloc, value) else {
-            return Err(Refused::Memory);
-        };
-        self.settings.ports.put(id, PortPut::Adrfam(adrfam));
-        Ok(Change::of(Touched::Port(at)))
+        self.set_address(alloc, id, Address::Adrfam, is_adrfam(value), value)
     }
 
-    #[tactic(auto, unfolding(crate::specs::Table::set_addr_treq, crate::specs::Outcome::first_of, crate::specs::Outcome::unless_stands, crate::specs::Outcome::if_port))]
+    #[tactic(auto, unfolding(crate::specs::Table::set_addr_treq))]
     pub(crate) fn set_addr_treq(
         &mut self,
         alloc: Global,
@@ -162,27 +160,10 @@ impl Tree {
     ) -> Result<Change, Refused>
         ensures { Gives (set_addr_treq self.old id value.now) self.old result self.new }
     {
-        let Some(row) = self.settings.ports.get(id) else {
-            return Err(Refused::Errno(Errno::ENOENT));
-        };
-        let at = row.at;
-        if row.links.len() > 0 {
-            return Err(Refused::Errno(Errno::EACCES));
-        }
-        if !is_treq(value) {
-            return Err(Refused::Errno(Errno::EINVAL));
-        }
-        if row.treq.as_bytes() == value {
-            return Ok(Change::none());
-        }
-        let Ok(treq) = Name::copied(alloc, value) else {
-            return Err(Refused::Memory);
-        };
-        self.settings.ports.put(id, PortPut::Treq(treq));
-        Ok(Change::of(Touched::Port(at)))
+        self.set_address(alloc, id, Address::Treq, is_treq(value), value)
     }
 
-    #[tactic(auto, unfolding(crate::specs::Table::set_addr_traddr, crate::specs::Outcome::first_of, crate::specs::Outcome::unless_stands, crate::specs::Outcome::if_port))]
+    #[tactic(auto, unfolding(crate::specs::Table::set_addr_traddr))]
     pub(crate) fn set_addr_traddr(
         &mut self,
         alloc: Global,
@@ -191,27 +172,11 @@ impl Tree {
     ) -> Result<Change, Refused>
         ensures { Gives (set_addr_traddr self.old id value.now) self.old result self.new }
     {
-        let Some(row) = self.settings.ports.get(id) else {
-            return Err(Refused::Errno(Errno::ENOENT));
-        };
-        let at = row.at;
-        if row.links.len() > 0 {
-            return Err(Refused::Errno(Errno::EACCES));
-        }
-        if value.len() > TRADDR_LEN {
-            return Err(Refused::Errno(Errno::EINVAL));
-        }
-        if row.traddr.as_bytes() == value {
-            return Ok(Change::none());
-        }
-        let Ok(traddr) = Name::copied(alloc, value) else {
-            return Err(Refused::Memory);
-        };
-        self.settings.ports.put(id, PortPut::Traddr(traddr));
-        Ok(Change::of(Touched::Port(at)))
+        let short = value.len() <= TRADDR_LEN;
+        self.set_address(alloc, id, Address::Traddr, short, value)
     }
 
-    #[tactic(auto, unfolding(crate::specs::Table::set_addr_trsvcid, crate::specs::Outcome::first_of, crate::specs::Outcome::unless_stands, crate::specs::Outcome::if_port))]
+    #[tactic(auto, unfolding(crate::specs::Table::set_addr_trsvcid))]
     pub(crate) fn set_addr_trsvcid(
         &mut self,
         alloc: Global,
@@ -220,24 +185,8 @@ impl Tree {
     ) -> Result<Change, Refused>
         ensures { Gives (set_addr_trsvcid self.old id value.now) self.old result self.new }
     {
-        let Some(row) = self.settings.ports.get(id) else {
-            return Err(Refused::Errno(Errno::ENOENT));
-        };
-        let at = row.at;
-        if row.links.len() > 0 {
-            return Err(Refused::Errno(Errno::EACCES));
-        }
-        if value.len() > TRSVCID_LEN {
-            return Err(Refused::Errno(Errno::EINVAL));
-        }
-        if row.trsvcid.as_bytes() == value {
-            return Ok(Change::none());
-        }
-        let Ok(trsvcid) = Name::copied(alloc, value) else {
-            return Err(Refused::Memory);
-        };
-        self.settings.ports.put(id, PortPut::Trsvcid(trsvcid));
-        Ok(Change::of(Touched::Port(at)))
+        let short = value.len() <= TRSVCID_LEN;
+        self.set_address(alloc, id, Address::Trsvcid, short, value)
     }
 
     #[tactic(auto, unfolding(crate::specs::Table::set_ana_state, crate::specs::Outcome::first_of, crate::specs::Outcome::unless_stands, crate::specs::Outcome::if_port, crate::specs::Outcome::if_group))]

@@ -2,7 +2,7 @@ ghost use Rattle.std.specs.Prelude.{◌≡◌, ◌==◌, ◌||◌, nat_lt, false
 ghost use Rattle.std.specs.List.{list_any, find, slice_get};
 ghost use Rattle.configfs_tree.specs.Maps.{update_at};
 ghost use Rattle.configfs_tree.specs.Places.{lowest_free};
-ghost use Rattle.configfs_tree.specs.Ports.{fresh_port, put_in_port, put_group, remove_group, put_link};
+ghost use Rattle.configfs_tree.specs.Ports.{fresh_port, address_of, with_address, put_group, remove_group, put_link};
 ghost use Rattle.configfs_tree.specs.Values.{state_number, state_named};
 ghost use Rattle.std.specs.FinMap as map;
 
@@ -153,14 +153,19 @@ pub struct PortRow {
     pub groups: Groups,
 }
 
-/// A new address of a port.
-#[derive(Drop)]
-pub enum PortPut {
-    Trtype(Name),
-    Adrfam(Name),
-    Traddr(Name),
-    Trsvcid(Name),
-    Treq(Name),
+/// An address of a port, as nvmet's configfs names it.
+#[derive(Clone, Copy, Debug, PartialEq, Eq)]
+pub enum Address {
+    /// `addr_trtype`
+    Trtype,
+    /// `addr_adrfam`
+    Adrfam,
+    /// `addr_traddr`
+    Traddr,
+    /// `addr_trsvcid`
+    Trsvcid,
+    /// `addr_treq`
+    Treq,
 }
 
 impl PortRow {
@@ -191,16 +196,29 @@ impl PortRow {
         self.links.len() > 0 || self.groups.len() > 1
     }
 
-    // Puts an address.
-    fn put(&mut self, put: PortPut)
-        ensures { self.new ≡ put_in_port put self.old }
+    /// One of its addresses.
+    pub fn address(&self, address: Address) -> &Name
+        ensures { result.now ≡ address_of address self.now }
     {
-        match put {
-            PortPut::Trtype(value) => self.trtype = value,
-            PortPut::Adrfam(value) => self.adrfam = value,
-            PortPut::Traddr(value) => self.traddr = value,
-            PortPut::Trsvcid(value) => self.trsvcid = value,
-            PortPut::Treq(value) => self.treq = value,
+        match address {
+            Address::Trtype => &self.trtype,
+            Address::Adrfam => &self.adrfam,
+            Address::Traddr => &self.traddr,
+            Address::Trsvcid => &self.trsvcid,
+            Address::Treq => &self.treq,
+        }
+    }
+
+    // Puts an address.
+    fn put(&mut self, address: Address, value: Name)
+        ensures { self.new ≡ with_address address value self.old }
+    {
+        match address {
+            Address::Trtype => self.trtype = value,
+            Address::Adrfam => self.adrfam = value,
+            Address::Traddr => self.traddr = value,
+            Address::Trsvcid => self.trsvcid = value,
+            Address::Treq => self.treq = value,
         }
     }
 }
@@ -266,13 +284,13 @@ impl Ports {
     }
 
     // Puts an address into a port.
-    pub(crate) fn put(&mut self, id: u16, put: PortPut)
-        ensures { self.new ≡ update_at self.old id (put_in_port put) }
+    pub(crate) fn put(&mut self, id: u16, address: Address, value: Name)
+        ensures { self.new ≡ update_at self.old id (with_address address value) }
     {
         let Some(row) = self.rows.get_mut(&id) else {
             return;
         };
-        row.put(put);
+        row.put(address, value);
     }
 
     // Gives a group of a port a state. On want of memory all is as before.

@@ -1,7 +1,5 @@
 // Random edits, compared with a plain slow tree: lists that are scanned, with numbers for names.
-use configfs_tree::{
-    Attr, Errno, Folder, FolderEdit, Nqn, Phase, Refused, Tree, admits_host, serves,
-};
+use configfs_tree::{Attr, Folder, FolderEdit, Nqn, Phase, Refused, Tree, admits_host, serves};
 use mem_bdev::{DiskLine, Name};
 use std::alloc::Global;
 use std::process::Abort;
@@ -522,14 +520,7 @@ fn told(rt: &impl Abort, alloc: Global, tree: &mut Tree, what: Do) -> &'static s
     match tree.apply_folder(alloc, &e) {
         Ok(_) => "ok",
         Err(Refused::Memory) => "memory",
-        Err(Refused::Errno(Errno::EPERM)) => "EPERM",
-        Err(Refused::Errno(Errno::ENOENT)) => "ENOENT",
-        Err(Refused::Errno(Errno::EACCES)) => "EACCES",
-        Err(Refused::Errno(Errno::EBUSY)) => "EBUSY",
-        Err(Refused::Errno(Errno::EEXIST)) => "EEXIST",
-        Err(Refused::Errno(Errno::EINVAL)) => "EINVAL",
-        Err(Refused::Errno(Errno::ENOTEMPTY)) => "ENOTEMPTY",
-        Err(Refused::Errno(Errno::ENOSPC)) => "ENOSPC",
+        Err(Refused::Errno(errno)) => errno.name(),
     }
 }
 
