@@ -1,5 +1,5 @@
 -- Each row group of the table keeps the standing facts.
-use Rattle.std.proofs.Common.{◌≡◌, ℕ, ◌==◌, ◌&&◌, ◌||◌, ◌<◌, ◌≤◌, not, Bool, true, false, cond, List, [], ◌∷◌, length, Option, Some, None, is_some, nat_lt, refl, sym, ap, subst, ◌∙◌, IsTrue, arith, Result, Ok, Err, codes}
+use Rattle.std.proofs.Common.{◌≡◌, ℕ, ◌&&◌, ◌||◌, ◌<◌, ◌≤◌, not, Bool, true, false, cond, List, [], ◌∷◌, Option, Some, None, is_some, nat_lt, refl, sym, ap, subst, ◌∙◌, IsTrue, arith, Result, Ok, Err, codes}
 use mathlib.Core.Logic.{⊎_elim}
 use Rattle.std.specs.Str.{bytes_eq}
 use Rattle.std.proofs.lemmas.Bool.{both_ways, ltb-true, ltb-false, not-false}
@@ -45,9 +45,8 @@ use Rattle.configfs_tree.specs.Links.{allowed_in, linked_in, with_attached, with
 use Rattle.configfs_tree.specs.Standing.{AnotherHas, HeldMeansAnother}
 use mathlib.Core.List.{map as map_list}
 use Rattle.uuid.specs.Text.{parsed}
-use Rattle.configfs_tree.specs.Values.{one_of, group_named, state_named}
+use Rattle.configfs_tree.specs.Values.{group_named, state_named}
 use Rattle.configfs_tree.specs.Asked.{is_busy, path_names_disk, path_is_held, subsystem_place_taken, port_place_taken}
-use Rattle.configfs_tree.specs.declared.limits.TheConstants.{TRADDR_LEN, TRSVCID_LEN}
 use Rattle.configfs_tree.specs.declared.namespaces.NamespacePut.TheVariants.{Path, Uuid, Nguid, Group, Enabled}
 use Rattle.configfs_tree.specs.declared.subsystems.SubsystemPut.{SubsystemPut}
 use Rattle.configfs_tree.specs.declared.subsystems.SubsystemPut.TheVariants.{AllowAnyHost, Serial, ModelName}
@@ -60,7 +59,7 @@ use Rattle.configfs_tree.specs.declared.edits.Folder.{Folder}
 use Rattle.configfs_tree.specs.declared.edits.Folder.TheVariants as folder
 use Rattle.configfs_tree.specs.declared.edits.FolderEdit.{FolderEdit}
 use Rattle.configfs_tree.specs.declared.edits.FolderEdit.TheVariants as edit
-use Rattle.configfs_tree.specs.Table.{mkdir, rmdir, set, set_of_subsystem, set_of_namespace, set_of_port, set_of_group, edit_outcome, put_parsed, put_on, put_group_of, put_state, set_address, disabled, enabled}
+use Rattle.configfs_tree.specs.Table.{mkdir, rmdir, set, set_of_subsystem, set_of_namespace, set_of_port, set_of_group, edit_outcome, put_on, put_group_of, put_state, set_address, disabled, enabled}
 use Rattle.configfs_tree.specs.Table.{mkdir_host, mkdir_subsystem, mkdir_namespace, mkdir_port, mkdir_ana_group, rmdir_host, rmdir_subsystem, rmdir_namespace, rmdir_port, rmdir_ana_group}
 use Rattle.configfs_tree.specs.Table.{set_attr_allow_any_host, set_attr_serial, set_attr_model, set_device_path, set_device_uuid, set_device_nguid, set_ana_grpid, set_enable, set_addr_trtype, set_addr_adrfam, set_addr_treq, set_addr_traddr, set_addr_trsvcid, set_ana_state}
 

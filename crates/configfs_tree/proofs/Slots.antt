@@ -1,5 +1,5 @@
 -- What an edit does to the namespaces of a tree, and to the ports that it doesn't make.
-use Rattle.std.proofs.Common.{◌≡◌, ◌⊎◌, inl, inr, ℕ, Bool, true, false, List, Option, Some, None, refl, sym, ap, subst, ◌∙◌}
+use Rattle.std.proofs.Common.{◌≡◌, ◌⊎◌, inl, inr, ℕ, List, Option, Some, None, sym, ap, subst, ◌∙◌}
 use mathlib.Core.Logic.{⊎_elim}
 use Rattle.std.specs.Cmp.{nat_cmp_total}
 use Rattle.std.specs.Ordering.{nat_cmp}
@@ -9,7 +9,6 @@ use Rattle.configfs_tree.specs.Maps.{update_at}
 use Rattle.configfs_tree.specs.Rows.{put_in, fresh_namespace}
 use Rattle.configfs_tree.specs.Subsystems.{put_namespace, add_namespace, remove_namespace}
 use Rattle.configfs_tree.specs.Standing.{Placed, placed_row, placed}
-use Rattle.configfs_tree.specs.Told.{enabled_row}
 use Rattle.configfs_tree.specs.declared.namespaces.NamespaceRow.{NamespaceRow}
 use Rattle.configfs_tree.specs.declared.namespaces.NamespacePut.{NamespacePut}
 use Rattle.configfs_tree.specs.declared.subsystems.SubsystemRow.{SubsystemRow}

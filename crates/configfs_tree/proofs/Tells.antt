@@ -1,8 +1,7 @@
 -- What a change tells of one part that an edit changed.
-use Rattle.std.proofs.Common.{◌≡◌, ◌⊎◌, inl, inr, ℕ, Bool, true, false, not, List, Option, Some, None, refl, sym, ap, subst, ◌∙◌}
+use Rattle.std.proofs.Common.{◌≡◌, ◌⊎◌, inl, inr, ℕ, Bool, true, false, not, List, Option, Some, None, refl, sym, ap, ◌∙◌}
 use Rattle.std.proofs.lemmas.Bool.{both_ways}
 use Rattle.std.specs.declared.cmp.Ordering.{Ordering}
-use Rattle.std.specs.Ordering.{nat_cmp}
 use Rattle.std.specs.Cmp.{IsTotalOrder, nat_cmp_total}
 use Rattle.std.specs.FinMap as map
 use Rattle.std.specs.FinMap.{FinMap, IsAntisymmetric, nat_cmp-IsAntisymmetric}
@@ -117,8 +116,11 @@ turn_tells t w disks sub nsid at n drains was one =
     let x = here at n in
     let y = here at (put_in (Enabled (not drains)) n) in
     record {
-      published = inl (refl, λ e. slot_differs t w sub nsid (Some x) (Some y) one
-          (λ f. not_itself drains (ap (λ (z : Placed). z.row.enabled) (some_same y x f) ∙ was)) (ap (λ (s : Settings). s.subsystems) e));
+      published = inl (
+        refl,
+        λ e. slot_differs t w sub nsid (Some x) (Some y) one
+            (λ f. not_itself drains (ap (λ (z : Placed). z.row.enabled) (some_same y x f) ∙ was)) (ap (λ (s : Settings). s.subsystems) e),
+      );
       spaces = λ a j. named a j (cases_slot sub nsid a j);
       space_named = λ place j e.
           let p = some_same (at, nsid) (place, j) e in
@@ -157,8 +159,11 @@ move_tells t w sub nsid at n group ne one =
     let x = here at n in
     let y = here at (put_in (Group group) n) in
     record {
-      published = inl (refl, λ e. slot_differs t w sub nsid (Some x) (Some y) one
-          (λ f. ne (sym (ap (λ (z : Placed). z.row.group) (some_same y x f)))) (ap (λ (s : Settings). s.subsystems) e));
+      published = inl (
+        refl,
+        λ e. slot_differs t w sub nsid (Some x) (Some y) one
+            (λ f. ne (sym (ap (λ (z : Placed). z.row.group) (some_same y x f)))) (ap (λ (s : Settings). s.subsystems) e),
+      );
       spaces = λ a j. inl (slot_look m w sub nsid (Some x) (Some y) one enabled_row refl a j);
       space_named = λ place j e. absurd (none_some (place, j) e);
       space_none = λ _. refl;

@@ -1,9 +1,7 @@
 -- The change of each row of the table tells what differs.
-use Rattle.std.proofs.Common.{◌≡◌, ℕ, ◌==◌, ◌&&◌, ◌||◌, ◌<◌, ◌≤◌, not, Bool, true, false, cond, List, [], ◌∷◌, length, Option, Some, None, is_some, nat_lt, refl, sym, ap, subst, ◌∙◌, IsTrue, arith, Result, Ok, Err, codes}
-use mathlib.Core.Logic.{⊎_elim}
+use Rattle.std.proofs.Common.{◌≡◌, ℕ, ◌==◌, not, Bool, true, false, List, Option, Some, None, is_some, nat_lt, refl, sym, ap, subst, ◌∙◌, Result, Ok, Err, codes}
 use Rattle.std.specs.Str.{bytes_eq}
-use Rattle.std.proofs.lemmas.Bool.{both_ways, ltb-true, ltb-false, not-false}
-use Rattle.std.specs.Ordering.{nat_cmp}
+use Rattle.std.proofs.lemmas.Bool.{both_ways, not-false}
 use Rattle.std.specs.Cmp.{nat_cmp_total}
 use Rattle.std.specs.Cmp.Lexicographic.{nat_list_cmp_total}
 use Rattle.std.specs.FinMap as map
@@ -11,43 +9,30 @@ use Rattle.std.specs.FinMap.{FinMap, nat_cmp-IsAntisymmetric}
 use Rattle.configfs_tree.specs.Nqns.{name_order}
 use Rattle.configfs_tree.specs.Maps.{update_at}
 use Rattle.configfs_tree.specs.Rows.{put_in, fresh_namespace}
-use Rattle.configfs_tree.specs.Subsystems.{fresh_subsystem, put_in_subsystem, put_allowed, put_namespace}
-use Rattle.configfs_tree.specs.Ports.{fresh_port, address_of, with_address, put_link, put_group, remove_group}
+use Rattle.configfs_tree.specs.Subsystems.{fresh_subsystem, put_in_subsystem, put_namespace}
+use Rattle.configfs_tree.specs.Ports.{fresh_port, address_of, with_address, put_group, remove_group}
 use Rattle.configfs_tree.specs.Places.{lowest_free}
-use Rattle.configfs_tree.specs.Holders.{disk_of, holder_of, hold, holds_path, has_disk, is_held, path_or_empty}
-use Rattle.configfs_tree.specs.Outcome.{Outcome, unless_stands, on_subsystem, on_port}
-use Rattle.configfs_tree.specs.Standing.{Placed, placed_row, placed_in, placed, HasHolders, IsStanding}
+use Rattle.configfs_tree.specs.Holders.{hold, holds_path, path_or_empty}
+use Rattle.configfs_tree.specs.Outcome.{Outcome, unless_stands, on_subsystem}
+use Rattle.configfs_tree.specs.Standing.{Placed, placed_in}
 use Rattle.configfs_tree.specs.declared.limits.TheConstants.{MAX_SUBSYSTEMS, MAX_PORTS}
-use Rattle.configfs_tree.specs.declared.disks.DiskRow.{DiskRow}
-use Rattle.configfs_tree.specs.declared.disks.Holder.{Holder}
 use Rattle.configfs_tree.specs.declared.edits.Errno.{Errno}
 use Rattle.configfs_tree.specs.declared.namespaces.NamespaceRow.{NamespaceRow}
 use Rattle.configfs_tree.specs.declared.subsystems.SubsystemRow.{SubsystemRow}
 use Rattle.configfs_tree.specs.declared.ports.AnaState.{AnaState}
 use Rattle.configfs_tree.specs.declared.ports.PortRow.{PortRow}
 use Rattle.configfs_tree.specs.declared.tree.Tree.{Tree}
-use Rattle.configfs_tree.proofs.Gets.{some_same, none_some, cases_key, get-insert_at, get-insert_beside, get-remove_at, get-remove_beside, get-update_at, get-update_beside}
-use Rattle.configfs_tree.proofs.Kept.{names_same, none_of_test, placed_made, placed_removed, placed_others, placed_here, placed_was, subsystems_changed, count_changed, subsystem_put, namespace_put, namespace_free, port_put, one_put, one_removed}
+use Rattle.configfs_tree.proofs.Gets.{some_same, none_some}
+use Rattle.configfs_tree.proofs.Kept.{names_same, none_of_test, placed_made, placed_removed}
 use Rattle.configfs_tree.proofs.Holds.{Holds, refuses, accepted, holds_row, holds_end, holds_last, holds_either, holds_unless, holds_if_subsystem, holds_if_namespace, holds_if_port, holds_if_group, holds_parsed}
-use Rattle.configfs_tree.proofs.Placing.{places_inserted, places_removed, places_updated, place_is_free, stands_at_none}
-use Rattle.configfs_tree.proofs.Held.{here, moved_same, enabled_kept, drained_kept, holder_holds, holding}
-use Rattle.std.specs.Prelude.{OnOk, OnErr, IfOk}
-use Rattle.mem_bdev.specs.declared.disk.DiskLine.{DiskLine}
+use Rattle.configfs_tree.proofs.Held.{here}
+use Rattle.std.specs.Prelude.{IfOk}
 use Rattle.configfs_tree.specs.declared.edits.Change.{Change}
 use Rattle.configfs_tree.specs.declared.edits.Refused.{Refused}
-use Rattle.configfs_tree.specs.declared.edits.Refused.TheVariants as refused
-use Rattle.configfs_tree.specs.declared.namespaces.Phase.TheVariants as phase
 use Rattle.configfs_tree.specs.Gives.{Gives, GivesErrno}
-use Rattle.configfs_tree.specs.Phases.{phase_from, phase_of_some, phase_in, phase_at}
-use Rattle.configfs_tree.specs.Drained.{freed_path, freed_by, freed_in, drained}
-use Rattle.configfs_tree.specs.Start.{free_disk, empty_tree}
-use Rattle.configfs_tree.specs.Links.{allowed_in, linked_in, with_attached, with_no_changes}
-use Rattle.configfs_tree.specs.Standing.{AnotherHas, HeldMeansAnother}
-use mathlib.Core.List.{map as map_list}
 use Rattle.uuid.specs.Text.{parsed}
-use Rattle.configfs_tree.specs.Values.{one_of, group_named, state_named}
-use Rattle.configfs_tree.specs.Asked.{is_busy, path_names_disk, path_is_held, subsystem_place_taken, port_place_taken}
-use Rattle.configfs_tree.specs.declared.limits.TheConstants.{TRADDR_LEN, TRSVCID_LEN}
+use Rattle.configfs_tree.specs.Values.{group_named, state_named}
+use Rattle.configfs_tree.specs.Asked.{subsystem_place_taken, port_place_taken}
 use Rattle.configfs_tree.specs.declared.namespaces.NamespacePut.TheVariants.{Path, Uuid, Nguid, Group, Enabled}
 use Rattle.configfs_tree.specs.declared.subsystems.SubsystemPut.{SubsystemPut}
 use Rattle.configfs_tree.specs.declared.subsystems.SubsystemPut.TheVariants.{AllowAnyHost, Serial, ModelName}
@@ -60,10 +45,9 @@ use Rattle.configfs_tree.specs.declared.edits.Folder.{Folder}
 use Rattle.configfs_tree.specs.declared.edits.Folder.TheVariants as folder
 use Rattle.configfs_tree.specs.declared.edits.FolderEdit.{FolderEdit}
 use Rattle.configfs_tree.specs.declared.edits.FolderEdit.TheVariants as edit
-use Rattle.configfs_tree.specs.Table.{mkdir, rmdir, set, set_of_subsystem, set_of_namespace, set_of_port, set_of_group, edit_outcome, put_parsed, put_on, put_group_of, put_state, set_address, disabled, enabled}
+use Rattle.configfs_tree.specs.Table.{mkdir, rmdir, set, set_of_subsystem, set_of_namespace, set_of_port, set_of_group, edit_outcome, put_on, put_group_of, put_state, set_address, disabled, enabled}
 use Rattle.configfs_tree.specs.Table.{mkdir_host, mkdir_subsystem, mkdir_namespace, mkdir_port, mkdir_ana_group, rmdir_host, rmdir_subsystem, rmdir_namespace, rmdir_port, rmdir_ana_group}
 use Rattle.configfs_tree.specs.Table.{set_attr_allow_any_host, set_attr_serial, set_attr_model, set_device_path, set_device_uuid, set_device_nguid, set_ana_grpid, set_enable, set_addr_trtype, set_addr_adrfam, set_addr_treq, set_addr_traddr, set_addr_trsvcid, set_ana_state}
-
 use Rattle.std.proofs.lemmas.Slice.Eq.{bytes_eq-Decides}
 use Rattle.std.proofs.lemmas.Bool.{eq-eqb}
 use Rattle.configfs_tree.specs.Asked.{has_path}

@@ -1,5 +1,5 @@
 -- What the change that an accepted edit answers tells of the trees before and after it: that the configuration differs, the one namespace that got enabled or began to drain, and the one port or the one subsystem with an ANA change.
-use Rattle.std.specs.Prelude.{◌≡◌, ◌⊎◌, ℕ, ◌+◌, ◌^◌, ◌-◌, ◌||◌, min, not, Bool, true, false, if◌then◌else◌, List, Option, Some, None, is_some, IsTrue}
+use Rattle.std.specs.Prelude.{◌≡◌, ◌⊎◌, ℕ, ◌+◌, ◌^◌, ◌-◌, ◌||◌, min, not, Bool, false, if◌then◌else◌, List, Option, Some, None, is_some, IsTrue}
 use Rattle.std.specs.FinMap as map
 use Rattle.configfs_tree.specs.Outcome.{nothing}
 use Rattle.configfs_tree.specs.Standing.{Placed, placed}

@@ -179,15 +179,27 @@ pub(crate) const OFF: &[Row] = &[
 pub(crate) const UUIDS: &[Row] = &[
     (Set(Space("s", 2), DeviceUuid, ""), "EINVAL"),
     (
-        Set(Space("s", 2), DeviceUuid, "ef90689c-6c46-d44c-89c1-4067801309a"),
+        Set(
+            Space("s", 2),
+            DeviceUuid,
+            "ef90689c-6c46-d44c-89c1-4067801309a",
+        ),
         "EINVAL",
     ),
     (
-        Set(Space("s", 2), DeviceUuid, "ef90689c-6c46-d44c-89c1-4067801309a8"),
+        Set(
+            Space("s", 2),
+            DeviceUuid,
+            "ef90689c-6c46-d44c-89c1-4067801309a8",
+        ),
         "ok",
     ),
     (
-        Set(Space("s", 2), DeviceUuid, "{EF90689C-6C46-D44C-89C1-4067801309A8}"),
+        Set(
+            Space("s", 2),
+            DeviceUuid,
+            "{EF90689C-6C46-D44C-89C1-4067801309A8}",
+        ),
         "ok",
     ),
     (
@@ -199,11 +211,19 @@ pub(crate) const UUIDS: &[Row] = &[
         "ok",
     ),
     (
-        Set(Space("s", 2), DeviceNguid, "ef90689c6c46d44c89c14067801309a8"),
+        Set(
+            Space("s", 2),
+            DeviceNguid,
+            "ef90689c6c46d44c89c14067801309a8",
+        ),
         "ok",
     ),
     (
-        Set(Space("s", 2), DeviceNguid, "ef90689c6c46d44c89c14067801309ag"),
+        Set(
+            Space("s", 2),
+            DeviceNguid,
+            "ef90689c6c46d44c89c14067801309ag",
+        ),
         "EINVAL",
     ),
 ];
@@ -216,7 +236,10 @@ pub(crate) const GROUPS_OF_NAMESPACES: &[Row] = &[
     (Set(Space("s", 2), AnaGrpid, "+1"), "EINVAL"),
     (Set(Space("s", 2), AnaGrpid, "129"), "EINVAL"),
     (Set(Space("s", 2), AnaGrpid, "1000"), "EINVAL"),
-    (Set(Space("s", 2), AnaGrpid, "18446744073709551617"), "EINVAL"),
+    (
+        Set(Space("s", 2), AnaGrpid, "18446744073709551617"),
+        "EINVAL",
+    ),
     (Set(Space("s", 2), AnaGrpid, "1"), "ok"),
     (Set(Space("s", 2), AnaGrpid, "128"), "ok"),
     (Set(Space("s", 2), AnaGrpid, "128"), "ok"),
