@@ -51,7 +51,7 @@ abbrev pub Spaces : Type 0
 Spaces = FinMap nat_cmp NamespaceRow
 
 -- a subsystem with its namespaces edited
-abbrev with_spaces : (Spaces → Spaces) → SubsystemRow → SubsystemRow
+abbrev pub with_spaces : (Spaces → Spaces) → SubsystemRow → SubsystemRow
 with_spaces g s = record s { namespaces = g s.namespaces }
 
 -- an edit of one namespace leaves the others

@@ -2,6 +2,7 @@
 use Rattle.std.proofs.Common.{◌≡◌, ◌⊎◌, inl, inr, ℕ, List, Option, Some, None, sym, ap, subst, ◌∙◌}
 use mathlib.Core.Logic.{⊎_elim}
 use Rattle.std.specs.Cmp.{nat_cmp_total}
+use Rattle.std.specs.Cmp.Lexicographic.{nat_list_cmp_total}
 use Rattle.std.specs.Ordering.{nat_cmp}
 use Rattle.std.specs.FinMap as map
 use Rattle.std.specs.FinMap.{FinMap, nat_cmp-IsAntisymmetric}
@@ -9,13 +10,14 @@ use Rattle.configfs_tree.specs.Maps.{update_at}
 use Rattle.configfs_tree.specs.Rows.{put_in, fresh_namespace}
 use Rattle.configfs_tree.specs.Subsystems.{put_namespace, add_namespace, remove_namespace}
 use Rattle.configfs_tree.specs.Standing.{Placed, placed_row, placed}
+use Rattle.configfs_tree.specs.Told.{subsystem_front}
 use Rattle.configfs_tree.specs.declared.namespaces.NamespaceRow.{NamespaceRow}
 use Rattle.configfs_tree.specs.declared.namespaces.NamespacePut.{NamespacePut}
 use Rattle.configfs_tree.specs.declared.subsystems.SubsystemRow.{SubsystemRow}
 use Rattle.configfs_tree.specs.declared.ports.PortRow.{PortRow}
 use Rattle.configfs_tree.proofs.Gets.{some_same, none_some, cases_key, get-insert_at, get-insert_beside, get-remove_at, get-remove_beside, get-update_at, get-update_beside, was_at}
-use Rattle.configfs_tree.proofs.Held.{here, Slot, is_slot, no_slot, cases_slot}
-use Rattle.configfs_tree.proofs.Kept.{Rows, Spaces, placed_others, placed_here, placed_was}
+use Rattle.configfs_tree.proofs.Held.{here, Slot, is_slot, no_slot, cases_slot, cases_name}
+use Rattle.configfs_tree.proofs.Kept.{Rows, Spaces, names_same, with_spaces, placed_others, placed_here, placed_was}
 
 abbrev pub Ports : Type 0
 Ports = FinMap nat_cmp PortRow
@@ -25,6 +27,14 @@ pub record OneSlot (m w : Rows) (sub : List ℕ) (nsid : ℕ) (o v : Option Plac
   pub before : placed m sub nsid ≡ o
   pub after : placed w sub nsid ≡ v
   pub others : (a : List ℕ) (j : ℕ) → (a ≡ sub → j ≡ nsid → ⊥) → placed w a j ≡ placed m a j
+  pub fronts : (a : List ℕ) → subsystem_front (map.get w a) ≡ subsystem_front (map.get m a)
+
+front_same : (m : Rows) (sub : List ℕ) (g : Spaces → Spaces) (s : SubsystemRow) → map.get m sub ≡ Some s → (a : List ℕ) → subsystem_front (map.get (update_at m sub (with_spaces g)) a) ≡ subsystem_front (map.get m a)
+front_same m sub g s e a = ⊎_elim
+    (λ (is : a ≡ sub). subst (λ (p : List ℕ). subsystem_front (map.get (update_at m sub (with_spaces g)) p) ≡ subsystem_front (map.get m p)) (sym is)
+    (ap subsystem_front (get-update_at nat_list_cmp_total names_same m sub (with_spaces g) s e) ∙ ap subsystem_front (sym e)))
+    (λ ne. ap subsystem_front (get-update_beside nat_list_cmp_total names_same m sub (with_spaces g) a ne))
+    (cases_name a sub)
 
 pub slot_put : (m : Rows) (sub : List ℕ) (nsid : ℕ) (put : NamespacePut) (s : SubsystemRow) (n : NamespaceRow) → map.get m sub ≡ Some s → map.get s.namespaces nsid ≡ Some n → OneSlot m (update_at m sub (put_namespace nsid put)) sub nsid (Some (here s.at n)) (Some (here s.at (put_in put n)))
 slot_put m sub nsid put s n e f =
@@ -33,6 +43,7 @@ slot_put m sub nsid put s n e f =
       before = placed_was m sub nsid s (Some n) e f;
       after = placed_here m sub nsid g s e ∙ ap (placed_row s.at) (get-update_at nat_cmp_total nat_cmp-IsAntisymmetric s.namespaces nsid (put_in put) n f);
       others = placed_others m sub nsid g (λ ns j ne. get-update_beside nat_cmp_total nat_cmp-IsAntisymmetric ns nsid (put_in put) j ne);
+      fronts = front_same m sub g s e;
     }
 
 pub slot_made : (m : Rows) (sub : List ℕ) (nsid : ℕ) (s : SubsystemRow) → map.get m sub ≡ Some s → map.get s.namespaces nsid ≡ None → OneSlot m (update_at m sub (add_namespace nsid)) sub nsid None (Some (here s.at fresh_namespace))
@@ -42,6 +53,7 @@ slot_made m sub nsid s e f =
       before = placed_was m sub nsid s None e f;
       after = placed_here m sub nsid g s e ∙ ap (placed_row s.at) (get-insert_at nat_cmp_total nat_cmp-IsAntisymmetric s.namespaces nsid fresh_namespace);
       others = placed_others m sub nsid g (λ ns j ne. get-insert_beside nat_cmp_total nat_cmp-IsAntisymmetric ns nsid fresh_namespace j ne);
+      fronts = front_same m sub g s e;
     }
 
 pub slot_gone : (m : Rows) (sub : List ℕ) (nsid : ℕ) (s : SubsystemRow) (n : NamespaceRow) → map.get m sub ≡ Some s → map.get s.namespaces nsid ≡ Some n → OneSlot m (update_at m sub (remove_namespace nsid)) sub nsid (Some (here s.at n)) None
@@ -51,6 +63,7 @@ slot_gone m sub nsid s n e f =
       before = placed_was m sub nsid s (Some n) e f;
       after = placed_here m sub nsid g s e ∙ ap (placed_row s.at) (get-remove_at nat_cmp_total nat_cmp-IsAntisymmetric s.namespaces nsid);
       others = placed_others m sub nsid g (λ ns j ne. get-remove_beside nat_cmp_total nat_cmp-IsAntisymmetric ns nsid j ne);
+      fronts = front_same m sub g s e;
     }
 
 module _ (m w : Rows) (sub : List ℕ) (nsid : ℕ) (o v : Option Placed) (one : OneSlot m w sub nsid o v) where

@@ -1,5 +1,5 @@
 -- The change of each row of the table tells what differs.
-use Rattle.std.proofs.Common.{◌≡◌, ℕ, ◌==◌, not, Bool, true, false, List, Option, Some, None, is_some, nat_lt, refl, sym, ap, subst, ◌∙◌, Result, Ok, Err, codes}
+use Rattle.std.proofs.Common.{◌≡◌, inl, inr, ℕ, ◌==◌, not, Bool, true, false, List, Option, Some, None, is_some, nat_lt, refl, sym, ap, subst, ◌∙◌, Result, Ok, Err, codes}
 use Rattle.std.specs.Str.{bytes_eq}
 use Rattle.std.proofs.lemmas.Bool.{both_ways, not-false}
 use Rattle.std.specs.Cmp.{nat_cmp_total}
@@ -22,7 +22,7 @@ use Rattle.configfs_tree.specs.declared.subsystems.SubsystemRow.{SubsystemRow}
 use Rattle.configfs_tree.specs.declared.ports.AnaState.{AnaState}
 use Rattle.configfs_tree.specs.declared.ports.PortRow.{PortRow}
 use Rattle.configfs_tree.specs.declared.tree.Tree.{Tree}
-use Rattle.configfs_tree.proofs.Gets.{some_same, none_some}
+use Rattle.configfs_tree.proofs.Gets.{some_same, none_some, get-insert_at, get-insert_beside, get-remove_beside, get-update_beside}
 use Rattle.configfs_tree.proofs.Kept.{names_same, none_of_test, placed_made, placed_removed}
 use Rattle.configfs_tree.proofs.Holds.{Holds, refuses, accepted, holds_row, holds_end, holds_last, holds_either, holds_unless, holds_if_subsystem, holds_if_namespace, holds_if_port, holds_if_group, holds_parsed}
 use Rattle.configfs_tree.proofs.Held.{here}
@@ -82,7 +82,9 @@ u_mkdir_subsystem t sub = holds_row _ _ _ _ (λ _. holds_row _ _ _ _ (λ absent.
     let m = t.settings.subsystems in
     let at = lowest_free MAX_SUBSYSTEMS 0 (subsystem_place_taken t) in
     let none = none_of_test (map.get m sub) absent in
-    rows_tell t (map.insert m sub (fresh_subsystem sub at)) (touches.Subsystem at)
+    rows_tell t (map.insert m sub (fresh_subsystem sub at)) sub (fresh_subsystem sub at)
+    (inr (get-insert_at nat_list_cmp_total names_same m sub (fresh_subsystem sub at)))
+    (λ a ne. get-insert_beside nat_list_cmp_total names_same m sub (fresh_subsystem sub at) a ne)
     (insert_differs nat_list_cmp_total names_same m sub (fresh_subsystem sub at) none)
     (placed_made m sub at none))))
 
@@ -90,7 +92,7 @@ u_mkdir_namespace : (t : Tree) (sub : List ℕ) (nsid : ℕ) → Told t (mkdir_n
 unfolding mkdir_namespace
 u_mkdir_namespace t sub nsid = holds_if_subsystem _ _ (λ s e. holds_row _ _ _ _ (λ _. holds_last _ _ _ _ (λ absent.
     let m = t.settings.subsystems in
-    slot_tells t (update_at m sub (add_namespace nsid)) sub nsid None (Some (here s.at fresh_namespace)) (touches.Namespace s.at nsid)
+    slot_tells t (update_at m sub (add_namespace nsid)) sub nsid None (Some (here s.at fresh_namespace)) (here s.at fresh_namespace) (inr refl)
     (slot_made m sub nsid s e (none_of_test (map.get s.namespaces nsid) absent))
     (λ f. none_some (here s.at fresh_namespace) (sym f)) refl (λ x y f g. absurd (none_some x f)))))
 
@@ -100,7 +102,9 @@ u_mkdir_port t id = holds_row _ _ _ _ (λ absent. holds_last _ _ _ _ (λ _.
     let m = t.settings.ports in
     let at = lowest_free MAX_PORTS 0 (port_place_taken t) in
     let none = none_of_test (map.get m id) absent in
-    ports_tell t (map.insert m id (fresh_port id at)) (touches.Port at)
+    ports_tell t (map.insert m id (fresh_port id at)) id (fresh_port id at)
+    (inr (get-insert_at nat_cmp_total nat_cmp-IsAntisymmetric m id (fresh_port id at)))
+    (λ k ne. get-insert_beside nat_cmp_total nat_cmp-IsAntisymmetric m id (fresh_port id at) k ne)
     (insert_differs nat_cmp_total nat_cmp-IsAntisymmetric m id (fresh_port id at) none)
     (made_ports m id (fresh_port id at) none)))
 
@@ -108,7 +112,8 @@ u_mkdir_ana_group : (t : Tree) (id group : ℕ) → Told t (mkdir_ana_group t id
 unfolding mkdir_ana_group
 u_mkdir_ana_group t id group = holds_if_port _ _ (λ p e. holds_row _ _ _ _ (λ _. holds_last _ _ _ _ (λ absent.
     port_tells t id group (put_group group state.Inaccessible) p e
-    (insert_differs nat_cmp_total nat_cmp-IsAntisymmetric p.groups group state.Inaccessible (none_of_test (map.get p.groups group) absent)))))
+    (insert_differs nat_cmp_total nat_cmp-IsAntisymmetric p.groups group state.Inaccessible (none_of_test (map.get p.groups group) absent))
+    refl (λ j ne. get-insert_beside nat_cmp_total nat_cmp-IsAntisymmetric p.groups group state.Inaccessible j ne))))
 
 -- ---- rmdir
 gone_differs : (m : FinMap name_order (Unit {0})) (k : List ℕ) (found : Option (Unit {0})) → map.get m k ≡ found → not (is_some found) ≡ false → map.remove m k ≡ m → ⊥
@@ -126,7 +131,8 @@ unfolding rmdir_subsystem
 u_rmdir_subsystem t sub = holds_if_subsystem _ _ (λ s e. holds_row _ _ _ _ (λ _. holds_last _ _ _ _ (λ unfilled.
     let m = t.settings.subsystems in
     let empty : s.namespaces ≡ map.empty = map.empty_of_len s.namespaces (none_below (map.len s.namespaces) (left_false (nat_lt 0 (map.len s.namespaces)) (nat_lt 0 (map.len s.allowed_hosts)) unfilled)) in
-    rows_tell t (map.remove m sub) (touches.Subsystem s.at)
+    rows_tell t (map.remove m sub) sub s (inl e)
+    (λ a ne. get-remove_beside nat_list_cmp_total names_same m sub a ne)
     (remove_differs nat_list_cmp_total names_same m sub s e)
     (placed_removed m sub s e empty))))
 
@@ -134,7 +140,7 @@ u_rmdir_namespace : (t : Tree) (sub : List ℕ) (nsid : ℕ) → Told t (rmdir_n
 unfolding rmdir_namespace
 u_rmdir_namespace t sub nsid = holds_if_subsystem _ _ (λ s e. holds_if_namespace _ _ (λ n f. holds_last _ _ _ _ (λ free.
     let m = t.settings.subsystems in
-    slot_tells t (update_at m sub (remove_namespace nsid)) sub nsid (Some (here s.at n)) None (touches.Namespace s.at nsid)
+    slot_tells t (update_at m sub (remove_namespace nsid)) sub nsid (Some (here s.at n)) None (here s.at n) (inl refl)
     (slot_gone m sub nsid s n e f)
     (λ g. none_some (here s.at n) g)
     (sym (left_false n.enabled (holds_path t.disks s.at nsid n.device_path) free))
@@ -144,7 +150,8 @@ u_rmdir_port : (t : Tree) (id : ℕ) → Told t (rmdir_port t id)
 unfolding rmdir_port
 u_rmdir_port t id = holds_if_port _ _ (λ p e. holds_row _ _ _ _ (λ _. holds_last _ _ _ _ (λ _.
     let m = t.settings.ports in
-    ports_tell t (map.remove m id) (touches.Port p.at)
+    ports_tell t (map.remove m id) id p (inl e)
+    (λ k ne. get-remove_beside nat_cmp_total nat_cmp-IsAntisymmetric m id k ne)
     (remove_differs nat_cmp_total nat_cmp-IsAntisymmetric m id p e)
     (gone_ports m id))))
 
@@ -152,13 +159,15 @@ u_rmdir_ana_group : (t : Tree) (id group : ℕ) → Told t (rmdir_ana_group t id
 unfolding rmdir_ana_group
 u_rmdir_ana_group t id group = holds_if_port _ _ (λ p e. holds_if_group _ _ (λ old f. holds_last _ _ _ _ (λ _.
     port_tells t id group (remove_group group) p e
-    (remove_differs nat_cmp_total nat_cmp-IsAntisymmetric p.groups group old f))))
+    (remove_differs nat_cmp_total nat_cmp-IsAntisymmetric p.groups group old f)
+    refl (λ j ne. get-remove_beside nat_cmp_total nat_cmp-IsAntisymmetric p.groups group j ne))))
 
 -- ---- set, on a subsystem
 attr_tells : (t : Tree) (sub : List ℕ) (put : SubsystemPut) (s : SubsystemRow) → map.get t.settings.subsystems sub ≡ Some s → (put_in_subsystem put s ≡ s → ⊥) → ((r : SubsystemRow) (j : ℕ) → placed_in j (Some (put_in_subsystem put r)) ≡ placed_in j (Some r)) → Tells t (on_subsystem t sub (put_in_subsystem put)) (touching (touches.Subsystem s.at))
 attr_tells t sub put s e ne same =
     let m = t.settings.subsystems in
-    rows_tell t (update_at m sub (put_in_subsystem put)) (touches.Subsystem s.at)
+    rows_tell t (update_at m sub (put_in_subsystem put)) sub s (inl e)
+    (λ a beside. get-update_beside nat_list_cmp_total names_same m sub (put_in_subsystem put) a beside)
     (update_differs nat_list_cmp_total names_same m sub (put_in_subsystem put) s e ne)
     (placed_attr m sub (put_in_subsystem put) same)
 
@@ -183,7 +192,7 @@ put_tells t sub nsid put s n e f ne on group =
     let m = t.settings.subsystems in
     let x = here s.at n in
     let y = here s.at (put_in put n) in
-    slot_tells t (update_at m sub (put_namespace nsid put)) sub nsid (Some x) (Some y) (touches.Namespace s.at nsid)
+    slot_tells t (update_at m sub (put_namespace nsid put)) sub nsid (Some x) (Some y) x (inl refl)
     (slot_put m sub nsid put s n e f)
     (λ is. ne (ap (λ (z : Placed). z.row) (some_same y x is))) on
     (λ p q g h. ap (λ (z : Placed). z.row.group) (sym (some_same y q h)) ∙ (group ∙ ap (λ (z : Placed). z.row.group) (some_same x p g)))
@@ -263,7 +272,8 @@ address_groups address.Treq value p = refl
 u_address : (t : Tree) (id : ℕ) (a : Address) (good : Bool) (value : List ℕ) → Told t (set_address t id a good value)
 u_address t id a good value = holds_if_port _ _ (λ p e. holds_row _ _ _ _ (λ _. holds_end _ _ _ (λ _. holds_unless _ t _ _ (tells_nothing t) (λ other.
     let m = t.settings.ports in
-    ports_tell t (update_at m id (with_address a value)) (touches.Port p.at)
+    ports_tell t (update_at m id (with_address a value)) id p (inl e)
+    (λ k ne. get-update_beside nat_cmp_total nat_cmp-IsAntisymmetric m id (with_address a value) k ne)
     (update_differs nat_cmp_total nat_cmp-IsAntisymmetric m id (with_address a value) p e (λ same. other_bytes (address_of a p) value other (sym (ap (address_of a) same) ∙ put_address a value p)))
     (put_ports m id (with_address a value) (address_groups a value))))))
 
@@ -282,7 +292,8 @@ u_state t id group p old None e f = refuses _
 u_state t id group p old (Some new) e f = holds_unless _ t _ _ (tells_nothing t) (λ other.
     port_tells t id group (put_group group new) p e
     (insert_other nat_cmp_total nat_cmp-IsAntisymmetric p.groups group new old f
-    (λ is. both_ways (same_state old new) other (eq-eqb (state_number old) (state_number new) (ap state_number (sym is))))))
+    (λ is. both_ways (same_state old new) other (eq-eqb (state_number old) (state_number new) (ap state_number (sym is)))))
+    refl (λ j ne. get-insert_beside nat_cmp_total nat_cmp-IsAntisymmetric p.groups group new j ne))
 
 u_set_ana_state : (t : Tree) (id group : ℕ) (value : List ℕ) → Told t (set_ana_state t id group value)
 unfolding set_ana_state

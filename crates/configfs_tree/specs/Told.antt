@@ -1,9 +1,13 @@
--- What the change that an accepted edit answers tells of the trees before and after it: that the configuration differs, the one namespace that got enabled or began to drain, and the one port or the one subsystem with an ANA change.
+-- What the change that an accepted edit answers tells of the trees before and after it: that the configuration differs, the one namespace that got enabled or began to drain, the one port or the one subsystem with an ANA change, and the one row that isn't as before.
 use Rattle.std.specs.Prelude.{◌≡◌, ◌⊎◌, ℕ, ◌+◌, ◌^◌, ◌-◌, ◌||◌, min, not, Bool, false, if◌then◌else◌, List, Option, Some, None, is_some, IsTrue}
 use Rattle.std.specs.FinMap as map
 use Rattle.configfs_tree.specs.Outcome.{nothing}
 use Rattle.configfs_tree.specs.Standing.{Placed, placed}
 use Rattle.configfs_tree.specs.declared.edits.Change.{Change}
+use Rattle.configfs_tree.specs.declared.edits.Touched.{Touched}
+use Rattle.configfs_tree.specs.declared.edits.Touched.TheVariants as touches
+use Rattle.configfs_tree.specs.declared.subsystems.SubsystemRow.{SubsystemRow}
+use Rattle.configfs_tree.specs.declared.ports.AnaState.{AnaState}
 use Rattle.configfs_tree.specs.declared.ports.PortRow.{PortRow}
 use Rattle.configfs_tree.specs.declared.tree.Tree.{Tree}
 
@@ -59,6 +63,32 @@ pub record SpaceMoves (t u : Tree) (at : ℕ) : Type 0 where
   pub at_is : x.at ≡ at
   pub differs : y.row.group ≡ x.row.group → ⊥
 
+-- ---- which row an edit is of
+-- it stands there before the edit, or after it
+abbrev pub OneOf : {X : Type 0} → Option X → Option X → X → Type 0
+OneOf o v x = (o ≡ Some x) ⊎ (v ≡ Some x)
+
+-- a subsystem without its namespaces, and a port without its ANA groups
+abbrev pub subsystem_front : Option SubsystemRow → Option SubsystemRow
+subsystem_front None = None
+subsystem_front (Some s) = Some (record s { namespaces = map.empty })
+
+abbrev pub port_front : Option PortRow → Option PortRow
+port_front None = None
+port_front (Some p) = Some (record p { groups = map.empty })
+
+-- the state of an ANA group that is made
+abbrev pub group_in : Option PortRow → ℕ → Option AnaState
+group_in None group = None
+group_in (Some p) group = map.get p.groups group
+
+-- what isn't of the touched row is as before: each namespace, each subsystem beside its namespaces, each port beside its ANA groups, and each ANA group. The row of a port takes its ANA groups in
+pub record OneRow (t u : Tree) (touched : Touched) : Type 0 where
+  pub spaces : (sub : List ℕ) (nsid : ℕ) → (space u sub nsid ≡ space t sub nsid) ⊎ ((x : Placed) × OneOf (space t sub nsid) (space u sub nsid) x × (touched ≡ touches.Namespace x.at nsid))
+  pub subsystems : (sub : List ℕ) → (subsystem_front (map.get u.settings.subsystems sub) ≡ subsystem_front (map.get t.settings.subsystems sub)) ⊎ ((s : SubsystemRow) × OneOf (map.get t.settings.subsystems sub) (map.get u.settings.subsystems sub) s × (touched ≡ touches.Subsystem s.at))
+  pub ports : (id : ℕ) → (port_front (map.get u.settings.ports id) ≡ port_front (map.get t.settings.ports id)) ⊎ ((p : PortRow) × OneOf (map.get t.settings.ports id) (map.get u.settings.ports id) p × (touched ≡ touches.Port p.at))
+  pub groups : (id group : ℕ) → (group_in (map.get u.settings.ports id) group ≡ group_in (map.get t.settings.ports id) group) ⊎ ((p : PortRow) × OneOf (map.get t.settings.ports id) (map.get u.settings.ports id) p × ((touched ≡ touches.Group p.at group) ⊎ (touched ≡ touches.Port p.at)))
+
 -- ---- the law, of the trees before and after an accepted edit
 pub record Tells (t u : Tree) (c : Change) : Type 0 where
   -- published: the configuration differs. Else nothing differs, and nothing is told of: the value that stands was written
@@ -77,3 +107,5 @@ pub record Tells (t u : Tree) (c : Change) : Type 0 where
   -- an ANA change is of a port or of a subsystem, and is counted once
   pub one : (c.ana_port ≡ None) ⊎ (c.ana_subsystem ≡ None)
   pub count : u.settings.ana_count ≡ (if is_some c.ana_port || is_some c.ana_subsystem then min (t.settings.ana_count + 1) (2 ^ 64 - 1) else t.settings.ana_count)
+  -- all but one row is as before
+  pub rows : OneRow t u c.touched

@@ -644,6 +644,9 @@ fn full_tables(rt: HostRuntime) {
         assert!(rt; told(&rt, alloc, &mut tree, Do::Mkdir(At::Port(id))) == "ok");
     }
     assert!(rt; told(&rt, alloc, &mut tree, Do::Mkdir(At::Port(9))) == "ENOSPC");
+    for there in [At::Host(63), At::Sub(15), At::Port(8)] {
+        assert!(rt; told(&rt, alloc, &mut tree, Do::Mkdir(there)) == "EEXIST");
+    }
     assert!(rt; told(&rt, alloc, &mut tree, Do::Rmdir(At::Sub(3))) == "ok");
     assert!(rt; told(&rt, alloc, &mut tree, Do::Mkdir(At::Sub(16))) == "ok");
     assert_eq!(rt; tree.subsystem_at(b"s16"), Some(3));
