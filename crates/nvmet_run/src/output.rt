@@ -85,6 +85,7 @@ impl Output {
     }
 
     /// Adds the record of a call at its place.
+    #[inline(always)]
     pub fn add(
         &mut self,
         place: u32,
