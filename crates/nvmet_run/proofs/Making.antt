@@ -10,14 +10,14 @@ use Rattle.seq_target.specs.declared.target.Target as program
 use Rattle.seq_target.specs.Model.{Call, Submit, Execute, Control, Entry, Target}
 use Rattle.seq_target.specs.Steps.{entry_of, target_after}
 use Rattle.seq_target.specs.Legal.{IsLegal, after}
-use Rattle.seq_target.specs.Stands.{StandsFor, Does, Simulates}
+use Rattle.seq_target.specs.Stands.{StandsFor, Simulates}
 use Rattle.nvmet_run.specs.declared.output.Kind.{Kind}
 use Rattle.nvmet_run.specs.declared.output.Output.{Output}
 use Rattle.nvmet_run.specs.Runs.{Placed, placed_from}
 use Rattle.nvmet_run.specs.Printing.{kind_of, number_of, payload_count}
 use Rattle.nvmet_run.specs.Prints.{Prints, IsRecordOf}
 use Rattle.nvmet_run.specs.Served.{is_held, Single, ServesCapsule, ServesFile}
-use Rattle.nvmet_run.specs.Goes.{Goes, Makes, Replied, ServesOne}
+use Rattle.nvmet_run.specs.Goes.{Makes, Replied, ServesOne}
 use Rattle.nvmet_run.proofs.Placing.{placed_from-append, placed_from-push, length-placed_from}
 
 after-append : (t : Target) (xs ys : List Entry) → after t (xs ++ ys) ≡ after (after t xs) ys

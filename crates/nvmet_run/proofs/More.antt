@@ -9,7 +9,7 @@ use Rattle.plan_files.specs.Records.{record_bytes}
 use Rattle.nvmet_run.specs.declared.output.Kind.{Kind}
 use Rattle.nvmet_run.specs.declared.output.Output.{Output}
 use Rattle.nvmet_run.specs.Runs.{Placed}
-use Rattle.nvmet_run.specs.Printing.{entry_bytes, responses, kind_of, kind_code, number_of, answer_code, completion_of, payload_count, submit_count, execute_count, refusal_count}
+use Rattle.nvmet_run.specs.Printing.{entry_bytes, responses, kind_of, kind_code, answer_code, completion_of, payload_count, submit_count, execute_count, refusal_count}
 use Rattle.nvmet_run.specs.Prints.{Prints, IsRecordOf}
 
 responses-push : (list : List Placed) (p : Placed) → responses (list ++ p ∷ []) ≡ responses list ++ entry_bytes p

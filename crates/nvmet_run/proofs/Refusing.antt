@@ -1,11 +1,9 @@
 -- Why a run ended, put together.
-use Rattle.std.proofs.Common.{◌≡◌, ◌≢◌, ◌≤◌, ◌<◌, ◌⊎◌, ℕ, ◌+◌, ◌^◌, min, Bool, true, false, cond, leb, ltb, List, [], ◌∷◌, ◌++◌, length, take, Option, Some, None, Result, Ok, Err, refl, sym, ap, subst, ◌∙◌, inl, inr, arith}
+use Rattle.std.proofs.Common.{◌≡◌, ◌≤◌, ◌<◌, ℕ, ◌+◌, Bool, true, false, cond, List, length, take, Option, Some, None, Result, Ok, Err, refl, sym, ap, subst, ◌∙◌, arith}
 use Rattle.std.specs.Prelude.{IfSome, IfOk, IfErr}
 use Rattle.std.proofs.lemmas.Bool.{le-ltb, le-leb, lt-ltb}
-use Rattle.std.proofs.lemmas.List.{length-take, append-nil}
+use Rattle.std.proofs.lemmas.List.{length-take}
 use Rattle.plan_files.specs.declared.items.Plan.{Plan}
-use Rattle.plan_files.specs.declared.items.QueueLine.{QueueLine}
-use Rattle.plan_files.specs.declared.outside.SinkFault.{SinkFault}
 use Rattle.plan_files.specs.declared.plan.PlanError.{PlanError}
 use Rattle.plan_files.specs.declared.limits.What.TheVariants.{Bytes}
 use Rattle.plan_files.specs.Plans.{IsPlan}
@@ -20,14 +18,14 @@ use Rattle.plan_files.specs.Lines.{lines_of}
 use Rattle.std.specs.Str.{bytes_eq}
 use Rattle.std.proofs.lemmas.Slice.Eq.{bytes_eq-Decides}
 use Rattle.plan_files.specs.declared.outside.WriteError.TheVariants as writes
-use Rattle.plan_files.specs.Outside.{WriteGives, LastCall, Rose, rose, read_call, write_call, SinkTakes, SinkCause}
+use Rattle.plan_files.specs.Outside.{WriteGives, Rose, rose}
 use Rattle.nvmet_run.specs.declared.status.FileNo.{FileNo}
-use Rattle.nvmet_run.specs.declared.status.TheConstants.{PLAN, CAPSULES, RESPONSES, SINK}
+use Rattle.nvmet_run.specs.declared.status.TheConstants.{PLAN}
 use Rattle.nvmet_run.specs.declared.status.Fault.{Fault}
 use Rattle.nvmet_run.specs.declared.status.Fault.TheVariants as fault
 use Rattle.nvmet_run.specs.Headline.{Told, HoldsOf, ReadsPlan, IsRunnable}
 use Rattle.nvmet_run.specs.Outsides.{FilesView, FailedCall, Kept}
-use Rattle.nvmet_run.specs.Reading.{◌>>=◌, content_of, plan_error, if_simple, simple_plan_in, plan_of_file, capsule_error, capsules_in_bytes}
+use Rattle.nvmet_run.specs.Reading.{◌>>=◌, content_of, plan_error, if_simple, simple_plan_in, capsule_error, capsules_in_bytes}
 use Rattle.nvmet_run.specs.Refusals.{FileRefused, ReadsSo, Refuses, Gives}
 use Rattle.nvmet_run.proofs.Runnable.{runnable}
 

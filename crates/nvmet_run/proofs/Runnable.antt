@@ -1,8 +1,8 @@
 -- A plan that was read can be run: its disks can be made, and the names of its files are text.
-use Rattle.std.proofs.Common.{◌≡◌, ◌⊎◌, ◌≤◌, ◌<◌, ℕ, Bool, true, false, ◌&&◌, eqb, List, [], ◌∷◌, ◌++◌, length, refl, sym, ap, subst, inl, inr, arith}
+use Rattle.std.proofs.Common.{◌≡◌, ◌⊎◌, ◌≤◌, ◌<◌, ℕ, Bool, true, false, ◌&&◌, eqb, List, [], ◌∷◌, ◌++◌, length, refl, sym, subst, inl, inr, arith}
 use Rattle.std.specs.Prelude.{nat_le, nat_lt, ◌==◌, ◌||◌, ◌^◌, IsUtf8}
 use Rattle.std.specs.List.{list_all, AllByRecursion}
-use Rattle.std.proofs.lemmas.Bool.{leb-true, eqb-true, ltb-true}
+use Rattle.std.proofs.lemmas.Bool.{leb-true, eqb-true}
 use Rattle.std.proofs.lemmas.Str.{IsUtf8-from_ascii}
 use Rattle.std.proofs.lemmas.Str.Ascii.{IsAscii-from_all}
 use Rattle.std.proofs.lemmas.List.Elements.{All-from_recursion}
@@ -13,8 +13,8 @@ use Rattle.plan_files.specs.declared.items.Item.TheVariants.{Simple, Disk, Confi
 use Rattle.plan_files.specs.declared.items.Plan.{Plan}
 use Rattle.plan_files.specs.declared.items.QueueLine.{QueueLine}
 use Rattle.plan_files.specs.Spelling.{is_name, fits, fits_disk, fits_queue}
-use Rattle.plan_files.specs.Plans.{IsPlan, Adds, IsAllowed, no_plan, with_item, item_bytes, is_complete}
-use Rattle.nvmet_run.specs.Headline.{IsRunnable, IsSimpleOf}
+use Rattle.plan_files.specs.Plans.{IsPlan, Adds, no_plan, with_item, item_bytes, is_complete}
+use Rattle.nvmet_run.specs.Headline.{IsRunnable}
 
 and_left : (a b : Bool) → (a && b) ≡ true → a ≡ true
 and_left true b e = refl

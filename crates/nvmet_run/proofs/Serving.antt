@@ -1,7 +1,6 @@
 -- Why a plan was not served to the end, and what a run has then left.
-use Rattle.std.proofs.Common.{◌≡◌, ◌≢◌, ◌≤◌, ◌⊎◌, ℕ, zero, suc, ◌+◌, ◌^◌, Bool, true, false, cond, ltb, List, [], ◌∷◌, ◌++◌, length, take, Option, Some, None, Result, Ok, Err, refl, sym, ap, subst, ◌∙◌, inl, inr, arith}
+use Rattle.std.proofs.Common.{◌≡◌, ◌≢◌, ◌≤◌, ℕ, zero, suc, ◌+◌, Bool, true, false, cond, ltb, List, [], ◌∷◌, ◌++◌, length, take, Option, Some, None, Result, Ok, Err, refl, sym, ap, subst, ◌∙◌, inl, inr, arith}
 use Rattle.std.proofs.lemmas.List.{append-nil}
-use Rattle.std.specs.List.{AllByRecursion}
 use Rattle.plan_files.specs.declared.items.Plan.{Plan}
 use Rattle.plan_files.specs.declared.items.QueueLine.{QueueLine}
 use Rattle.plan_files.specs.declared.outside.SinkFault.{SinkFault}
@@ -9,7 +8,7 @@ use Rattle.plan_files.specs.declared.capsules.CapsuleError.{CapsuleError}
 use Rattle.plan_files.specs.declared.capsules.CapsuleError.TheVariants as queues
 use Rattle.plan_files.specs.Capsules.{Capsule}
 use Rattle.plan_files.specs.Fronts.{capsules_of}
-use Rattle.plan_files.specs.Outside.{LastCall, Rose, SinkTakes, SinkCause}
+use Rattle.plan_files.specs.Outside.{LastCall, Rose, SinkTakes}
 use Rattle.mem_bdev.specs.declared.disk.DiskLine.{DiskLine}
 use Rattle.nvmet_run.specs.declared.status.FileNo.{FileNo}
 use Rattle.nvmet_run.specs.declared.status.TheConstants.{PLAN, CAPSULES, RESPONSES, SINK}

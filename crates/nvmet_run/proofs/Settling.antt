@@ -1,22 +1,19 @@
 -- What told files hold settles how a run ends, where no call fails.
-use Rattle.std.proofs.Common.{◌≡◌, ◌≢◌, ◌⊎◌, ℕ, List, [], ◌∷◌, Option, Some, None, Result, Ok, Err, refl, sym, ap, subst, ◌∙◌, inl, inr, arith}
-use Rattle.std.specs.Prelude.{MatchResult, OnOk, IfErr}
+use Rattle.std.proofs.Common.{◌≡◌, ◌⊎◌, ℕ, List, [], ◌∷◌, Option, Some, None, Err, refl, sym, ap, ◌∙◌, inl, inr}
 use Rattle.plan_files.specs.Outside.{Rose}
 use Rattle.plan_files.specs.Capsules.{Capsule}
 use Rattle.plan_files.specs.declared.items.Plan.{Plan}
 use Rattle.plan_files.specs.declared.items.QueueLine.{QueueLine}
-use Rattle.nvmet_run.specs.declared.status.FileNo.{FileNo}
-use Rattle.nvmet_run.specs.declared.status.TheConstants.{PLAN, CAPSULES}
 use Rattle.nvmet_run.specs.declared.status.Fault.{Fault}
 use Rattle.nvmet_run.specs.declared.status.Fault.TheVariants as fault
 use Rattle.nvmet_run.specs.declared.status.Status.{Status}
 use Rattle.nvmet_run.specs.declared.status.Status.TheVariants as status
 use Rattle.nvmet_run.specs.Codes.{status_of}
 use Rattle.nvmet_run.specs.Runs.{Run}
-use Rattle.nvmet_run.specs.Headline.{Told, HoldsOf, ReadsPlan, ReadsCapsules, AreRead, IsRead, Ran}
-use Rattle.nvmet_run.specs.Outsides.{FilesView, Outside}
+use Rattle.nvmet_run.specs.Headline.{Told, HoldsOf, ReadsPlan, AreRead, IsRead}
+use Rattle.nvmet_run.specs.Outsides.{Outside}
 use Rattle.nvmet_run.specs.Reading.{plan_of_file, capsules_of_file}
-use Rattle.nvmet_run.specs.Refusals.{FirstOf, QueuesTell, PlanTells, FilesTell, ReadsSo, FileRefused, ReadingRefused, QueueRefused, Refusal}
+use Rattle.nvmet_run.specs.Refusals.{QueuesTell, FilesTell, ReadsSo, Refusal}
 
 -- what is told is what was read
 same_bytes : (o : Option (List ℕ)) (a b : List ℕ) → o ≡ Some a → HoldsOf o b → a ≡ b

@@ -1,5 +1,5 @@
 -- The run of a simple plan, put together.
-use Rattle.std.proofs.Common.{◌≡◌, ℕ, List, [], ◌∷◌, ◌++◌, length, Option, Some, None, Ok, refl, sym, ap, subst, ◌∙◌, arith}
+use Rattle.std.proofs.Common.{◌≡◌, ℕ, List, [], ◌∷◌, length, Option, Ok, refl, sym, ap, subst, ◌∙◌, arith}
 use Rattle.std.proofs.lemmas.List.{append-nil}
 use Rattle.std.proofs.lemmas.List.Sorted.{IsPermutation-refl}
 use Rattle.mem_bdev.specs.declared.disk.DiskLine.{DiskLine}
@@ -10,12 +10,12 @@ use Rattle.seq_target.specs.declared.target.Target as program
 use Rattle.seq_target.specs.Model.{Entry, simple_start}
 use Rattle.seq_target.specs.Stands.{StandsFor}
 use Rattle.nvmet_run.specs.declared.output.Output.{Output}
-use Rattle.nvmet_run.specs.Runs.{Placed, Run, IsOrdered, placed_from}
-use Rattle.nvmet_run.specs.Served.{ServesFile, IsServed}
-use Rattle.nvmet_run.specs.Printing.{responses, summary, summary_of, all_placed, submits_in, executes_in, refusals_in, bytes_taken, bytes_given}
+use Rattle.nvmet_run.specs.Runs.{Placed, IsOrdered, placed_from}
+use Rattle.nvmet_run.specs.Served.{ServesFile}
+use Rattle.nvmet_run.specs.Printing.{summary, summary_of, all_placed, submits_in, executes_in, refusals_in, bytes_taken, bytes_given}
 use Rattle.nvmet_run.specs.Prints.{Prints}
 use Rattle.nvmet_run.specs.Goes.{Makes}
-use Rattle.nvmet_run.specs.Headline.{Told, HoldsOf, KeptBut, Took, ServedPlan, ReadsPlan, ReadsCapsules, IsSimpleOf, Ran, alone}
+use Rattle.nvmet_run.specs.Headline.{Told, HoldsOf, KeptBut, Took, ServedPlan, ReadsPlan, IsSimpleOf, Ran, alone}
 use Rattle.nvmet_run.specs.Reading.{capsules_of_file}
 use Rattle.nvmet_run.specs.Outsides.{Outside, FailedPut}
 use Rattle.nvmet_run.specs.Refusals.{Unsaid}

@@ -1,5 +1,5 @@
 -- What lies outside of a run, as far as files and sink speak of it, and calls that failed.
-use Rattle.std.specs.Prelude.{◌≡◌, ◌≤◌, ℕ, Bool, true, false, List, take, Option, Some, Result, Err}
+use Rattle.std.specs.Prelude.{◌≡◌, ℕ, Bool, true, List, take, Option, Some, Result, Err}
 use Rattle.plan_files.specs.Outside.{LastCall, Rose, SinkTakes, SinkCause}
 use Rattle.plan_files.specs.declared.outside.SinkFault.{SinkFault}
 use Rattle.nvmet_run.specs.Headline.{Told}

@@ -1,5 +1,5 @@
 -- What is printed of a run: the response files, and the summary.
-use Rattle.std.specs.Prelude.{ℕ, ◌+◌, ◌==◌, if◌then◌else◌, List, [], ◌∷◌, ◌++◌, length, codes}
+use Rattle.std.specs.Prelude.{ℕ, ◌==◌, if◌then◌else◌, List, [], ◌∷◌, ◌++◌, length, codes}
 use Rattle.std.specs.List.{flat_map, sum_by}
 use Rattle.std.specs.Fmt.{decimal}
 use Rattle.sqe_cqe.specs.declared.cqe.Cqe.{Cqe}
@@ -7,7 +7,7 @@ use Rattle.sqe_cqe.specs.declared.codes.TheConstants.{SUCCESS}
 use Rattle.plan_files.specs.Records.{record_bytes}
 use Rattle.seq_target.specs.declared.calls.Reply.{Reply}
 use Rattle.seq_target.specs.declared.calls.Reply.TheVariants.{Held, Answered, Waiting, NoEvent}
-use Rattle.seq_target.specs.Model.{Call, Submit, Execute, Control, Entry}
+use Rattle.seq_target.specs.Model.{Call, Submit, Execute, Control}
 use Rattle.nvmet_run.specs.Runs.{Placed, Run}
 use Rattle.nvmet_run.specs.declared.output.Kind as kinds
 use Rattle.nvmet_run.specs.declared.output.Kind.TheVariants as kind

@@ -2,8 +2,6 @@
 use Rattle.std.specs.Prelude.{◌≡◌, ◌⊎◌, ℕ, ◌==◌, if◌then◌else◌, true, false, List, [], ◌∷◌, ◌++◌, codes, Option, Some, None, Result, Ok, Err}
 use Rattle.plan_files.specs.declared.items.Plan.{Plan}
 use Rattle.plan_files.specs.declared.items.QueueLine.{QueueLine}
-use Rattle.plan_files.specs.Capsules.{Capsule}
-use Rattle.mem_bdev.specs.declared.disk.DiskLine.{DiskLine}
 use Rattle.nvmet_run.specs.declared.status.FileNo.{FileNo}
 use Rattle.nvmet_run.specs.declared.status.TheConstants.{PLAN, CAPSULES, RESPONSES, SINK}
 use Rattle.nvmet_run.specs.declared.status.Fault.{Fault}
@@ -14,7 +12,7 @@ use Rattle.nvmet_run.specs.Texts.{line_of}
 use Rattle.nvmet_run.specs.Runs.{Run, IsOrdered, IsLegalRun}
 use Rattle.nvmet_run.specs.Served.{IsServed}
 use Rattle.nvmet_run.specs.Printing.{summary}
-use Rattle.nvmet_run.specs.Headline.{Told, HoldsOf, ReadsPlan, IsSimpleOf, IsRead, IsWritten, KeptBut}
+use Rattle.nvmet_run.specs.Headline.{Told, HoldsOf, ReadsPlan, IsRead, IsWritten, KeptBut}
 
 -- ---- one file
 

@@ -5,7 +5,6 @@ use Rattle.plan_files.specs.Words.{word_of}
 use Rattle.plan_files.specs.declared.limits.What.{What}
 use Rattle.nvmet_run.specs.declared.status.At.{At}
 use Rattle.nvmet_run.specs.declared.status.At.TheVariants as at
-use Rattle.nvmet_run.specs.declared.status.FileNo.{FileNo}
 use Rattle.nvmet_run.specs.declared.status.TheConstants.{SINK}
 use Rattle.nvmet_run.specs.declared.status.Fault.{Fault}
 use Rattle.nvmet_run.specs.declared.status.Fault.TheVariants as fault

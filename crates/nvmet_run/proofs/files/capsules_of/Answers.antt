@@ -1,4 +1,3 @@
-use Rattle.std.proofs.Common.{◌≡◌, sym}
 use Rattle.nvmet_run.specs.Reading.{capsules_in_bytes}
 use Rattle.nvmet_run.proofs.Refusing.{refused_then, refused_by_bytes, within}
 use Rattle.nvmet_run.proofs.files.capsules_of.Goals as goal

@@ -1,4 +1,4 @@
-use Rattle.std.proofs.Common.{◌≡◌, ◌∙◌, sym, true, false, arith}
+use Rattle.std.proofs.Common.{true, false, arith}
 use Rattle.nvmet_run.proofs.LineCounts.{lines_ended}
 use Rattle.nvmet_run.proofs.files.line_count.Goals as goal
 

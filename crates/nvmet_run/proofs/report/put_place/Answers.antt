@@ -1,4 +1,4 @@
-use Rattle.std.specs.Prelude.{◌++◌, ◌∷◌, [], codes}
+use Rattle.std.specs.Prelude.{◌++◌, ◌∷◌, []}
 use Rattle.std.specs.Fmt.{decimal}
 use Rattle.nvmet_run.proofs.Puts.{takes_front, takes_both}
 use Rattle.nvmet_run.proofs.report.put_place.Goals as goal

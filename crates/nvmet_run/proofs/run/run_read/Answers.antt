@@ -1,7 +1,6 @@
 use Rattle.std.proofs.lemmas.Result.{err_from_is_err_and}
 use Rattle.nvmet_run.proofs.Whole.{ran, unsaid}
 use Rattle.nvmet_run.proofs.Serving.{unsaid_queue, kept_but}
-use Rattle.nvmet_run.specs.Outsides.{outside}
 use Rattle.nvmet_run.proofs.run.run_read.Goals as goal
 
 pub returns-in_err-put-clause-refused : goal.returns-in_err-put-clause-refused

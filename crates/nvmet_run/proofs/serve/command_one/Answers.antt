@@ -1,8 +1,7 @@
-use Rattle.std.proofs.Common.{◌≡◌, true, false, List, subst, sym, ◌∙◌, ap, Ok}
+use Rattle.std.proofs.Common.{◌≡◌, subst, sym, ◌∙◌}
 use Rattle.seq_target.specs.declared.calls.Reply.{Reply}
 use Rattle.seq_target.specs.declared.calls.Reply.TheVariants.{Held}
 use Rattle.seq_target.specs.Model.{Submit}
-use Rattle.nvmet_run.specs.Served.{is_held}
 use Rattle.nvmet_run.specs.Goes.{Makes, Replied}
 use Rattle.nvmet_run.proofs.Making.{makes_by, makes_both, both_serve, submit_serves, held_reply, no_fabrics}
 use Rattle.nvmet_run.proofs.serve.command_one.Goals as goal
