@@ -55,6 +55,8 @@ const QUEUES: &[QueueRow] = &[
     ),
     (&[(0x00, 0, 65_536)], 0, ""),
     (&[(0x00, 0, 65_536)], 1, "limit q1 capsules 65537\n"),
+    (&[], 67_108_864, "limit q1 capsules 65537\n"),
+    (&[], 67_108_865, "limit q1 bytes 67108865\n"),
 ];
 
 fn queue_of(alloc: Global, row: &QueueRow) -> Result<Vec<u8>, Fail> {
