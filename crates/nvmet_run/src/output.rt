@@ -66,11 +66,13 @@ impl Kind {
 impl Output {
     ghost use Rattle.nvmet_run.specs.Runs.{Placed};
     ghost use Rattle.nvmet_run.specs.Prints.{Prints, IsRecordOf};
+    ghost use Rattle.std.specs.Vec.{vec_capacity};
 
     /// An output of no calls, with room for this many bytes of records.
     pub fn new(alloc: Global, room: usize) -> Result<Self, AllocError>
         ensures prints { IfOk result (λ o. Prints o []) }
         ensures places { IfOk result (λ o. o.places ≡ 0) }
+        ensures room { IfOk result (λ o. room ≤ vec_capacity o.records) }
     {
         let records = Vec::with_capacity(alloc, room)?;
         Ok(Output {
