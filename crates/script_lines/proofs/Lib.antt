@@ -1,0 +1,4 @@
+pub mod Cuts
+pub mod Trimming
+pub mod Values
+pub mod Whole
