@@ -3,9 +3,9 @@ ghost use Rattle.std.specs.Prelude.{◌≡◌, ◌≢◌, ◌+◌, ◌-◌, ◌+
 ghost use Rattle.ref_state.specs.State.{view};
 ghost use Rattle.ref_state.specs.Steps.{next_core, answer_of, is_at, is_on, first, without, least, listed, after_split, split_part, after_join, spent_view};
 
+use lists::items::Items;
 use ref_allowed::entries::entry_index;
 use ref_allowed::holds::{HoldTest, hold_index, remove_hold};
-use ref_state::items::Items;
 use ref_state::kinds::{Answer, Kind, Take};
 use ref_state::state::{Entry, Hold, LoadedMode, Role, Section, State, View};
 use std::alloc::{AllocError, Global};
@@ -142,8 +142,8 @@ pub fn join(alloc: Global, s: &mut State, seat: u32, part: u32) -> Result<Answer
 {
     let from = s.views.at(part as usize);
     let into = s.views.at(seat as usize);
-    let holds = from.holds.joined(alloc, &into.holds)?;
-    let entries = from.entries.joined(alloc, &into.entries)?;
+    let holds = from.holds.concat(alloc, &into.holds)?;
+    let entries = from.entries.concat(alloc, &into.entries)?;
     let (left, seen) = (from.left, from.seen);
     join_into(s.views.at_mut(seat as usize), holds, entries, left, seen);
     spend(alloc, s.views.at_mut(part as usize));
