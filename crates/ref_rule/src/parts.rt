@@ -1,5 +1,5 @@
 //! Parts of a seat: what is split off, and what is joined.
-ghost use Rattle.std.specs.Prelude.{◌≡◌, ◌≢◌, ◌+◌, ◌-◌, ◌++◌, ◌^◌, ◌<◌, ◌==◌, if◌then◌else◌, length, IfOk, OnErr, OnOk};
+ghost use Rattle.std.specs.Prelude.{◌≡◌, ◌≢◌, ◌+◌, ◌-◌, ◌++◌, ◌^◌, ◌<◌, ◌==◌, if◌then◌else◌, length, max, IfOk, OnErr, OnOk};
 ghost use Rattle.ref_state.specs.State.{view};
 ghost use Rattle.ref_state.specs.Steps.{next_core, answer_of, is_at, is_on, first, without, least, listed, after_split, split_part, after_join, spent_view};
 
@@ -103,16 +103,14 @@ pub fn split(alloc: Global, s: &mut State, seat: u32, take: Take) -> Result<Answ
     Ok(Answer::Nothing)
 }
 
-// A seat with all that a part kept.
+// A seat with all that a part kept, which has seen what either had.
 fn join_into(view: &mut View, holds: Items<Hold>, entries: Items<Entry>, left: u32, seen: u32)
     requires { view.old.left + left < 2 ^ 32 }
-    ensures { view.new ≡ record view.old { holds = holds; left = view.old.left + left; seen = (if view.old.seen - seen == 0 then seen else view.old.seen); entries = entries } }
+    ensures { view.new ≡ record view.old { holds = holds; left = view.old.left + left; seen = max view.old.seen seen; entries = entries } }
 {
     view.holds = holds;
     view.left += left;
-    if view.seen <= seen {
-        view.seen = seen;
-    }
+    view.seen = view.seen.max(seen);
     view.entries = entries;
 }
 

@@ -21,3 +21,4 @@ pub mod Consequences
 pub mod Needs
 pub mod LivesKept
 pub mod OneStepTells
+pub mod OwnersKept

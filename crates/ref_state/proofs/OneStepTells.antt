@@ -1,5 +1,6 @@
 -- What one step tells, and what it leaves to the others.
-use Rattle.std.proofs.Common.{◌≡◌, ◌≢◌, ℕ, zero, suc, ◌+◌, ◌-◌, ◌%◌, ◌<◌, ◌≤◌, ◌==◌, cond, Bool, true, false, List, [], ◌∷◌, ◌++◌, get_or, set, sym, refl, ap, ◌∙◌, subst, ⊎_elim, arith, get_or-set_same}
+use Rattle.std.proofs.Common.{◌≡◌, ◌≢◌, ℕ, zero, suc, ◌+◌, ◌-◌, ◌%◌, ◌<◌, ◌≤◌, ◌==◌, cond, Bool, true, false, List, [], ◌∷◌, ◌++◌, length, get_or, set, sym, inl, inr, refl, ap, ◌∙◌, subst, ⊎_elim, arith, get_or-set_same, get_or-set_other}
+use Rattle.std.proofs.lemmas.Bool.{eqb-true}
 use mathlib.Core.Option.{some, some-ne-none}
 use lib.ListN.{get_elem?}
 use Rattle.ref_state.specs.declared.kinds.Kind.{Kind}
@@ -9,13 +10,17 @@ use Rattle.ref_state.specs.declared.state.Entry.{Entry}
 use Rattle.ref_state.specs.declared.state.LoadedMode.TheVariants.{Killed}
 use Rattle.ref_state.specs.declared.state.Phase.TheVariants as phase
 use Rattle.ref_state.specs.declared.state.View.{View}
+use Rattle.ref_state.specs.declared.state.Mark.{Mark}
+use Rattle.ref_state.specs.declared.state.Mark.TheVariants.{Unseen, Noted, Passed}
+use Rattle.ref_state.specs.declared.state.Drain.{Drain}
 use Rattle.ref_state.specs.declared.state.Disk.{Disk}
 use Rattle.ref_state.specs.declared.state.State.{State as Core}
-use Rattle.ref_state.specs.State.{At, total, kept, entries, any_entry, has_place, has_got, one_if, once_below, no_disk, disk, drain, view, no_view}
-use Rattle.ref_state.specs.Steps.{next_core, word_after}
+use Rattle.ref_state.specs.State.{At, total, kept, entries, any_entry, has_place, has_got, one_if, once_below, is_odd, mark, looked, is_killed, no_disk, disk, drain, view, no_view}
+use Rattle.ref_state.specs.Steps.{next_core, answer_of, at_mark, at_drain, looked_at, word_after}
 use Rattle.ref_state.specs.Soundness.{IsSound, LoadedModeFits, puts_of}
-use Rattle.ref_state.specs.OneStep.{PutThatFindsOne, WordsFollowCounts, OthersStay, EntriesAndPlacesLeft, GatheredHasAll}
+use Rattle.ref_state.specs.OneStep.{PutThatFindsOne, WordsFollowCounts, IsPassedOrNoted, LookTells, takes_place, place_in, IsNewPlace, PlacesAreNew, JoinKeepsTheLarger, OthersStay, EntriesAndPlacesLeft, GatheredHasAll}
 use Rattle.ref_state.proofs.Lists.{at_or, set_else, total_set, total_le}
+use Rattle.ref_state.proofs.ShownKept.{drain_looked}
 use Rattle.ref_state.proofs.Consequences.{last_put_ends}
 
 -- ## What a put tells
@@ -58,6 +63,83 @@ words_down u d = omega arith
 pub words_follow_counts : WordsFollowCounts
 words_follow_counts true x = words_up x.ups x.downs
 words_follow_counts false x = words_down x.ups x.downs
+
+-- ## What a look tells
+
+looked_tells : (m : Mark) (w : ℕ) → IsPassedOrNoted w (looked m w)
+looked_tells Unseen w = by_case (is_odd w) refl
+  where
+    by_case : (z : Bool) → is_odd w ≡ z → IsPassedOrNoted w (cond z (Noted w) Passed)
+    by_case true e = inr (refl, e)
+    by_case false e = inl refl
+looked_tells (Noted x) w = by_case (is_odd w) (w == x) refl (eqb-true w x)
+  where
+    by_case : (z y : Bool) → is_odd w ≡ z → (y ≡ true → w ≡ x) → IsPassedOrNoted w (cond z (cond y (Noted x) Passed) Passed)
+    by_case true true e same = inr (ap (λ i. Noted i) (sym (same refl)), e)
+    by_case true false e same = inl refl
+    by_case false y e same = inl refl
+looked_tells Passed w = inl refl
+
+mark_tells : (o w : ℕ) (ms : List Mark) → o < length ms → IsPassedOrNoted w (mark (at_mark o w ms) o)
+mark_tells o w ms near = subst (IsPassedOrNoted w) (sym (get_or-set_same ms o (looked (mark ms o) w) Unseen near)) (looked_tells (mark ms o) w)
+
+pub look_tells : LookTells
+look_tells c j o w sound a found = let same : (view c.views o).word ≡ w = word_is found in let ok = a.may in let many = sound.sections.marked in
+    subst (λ (x : ℕ). IsPassedOrNoted w (mark (at_mark o x c.editor.marks) o)
+    × ((d : ℕ) → (drain c.editor d).phase ≡ phase.Killed → IsPassedOrNoted w (mark (drain (looked_at o x c.editor) d).marks o))) (sym same)
+    (mark_tells o w c.editor.marks (omega arith), λ d killed. at_disk d killed)
+  where
+    at_disk : (d : ℕ) → (drain c.editor d).phase ≡ phase.Killed → IsPassedOrNoted w (mark (drain (looked_at o w c.editor) d).marks o)
+    at_disk d killed = let b : Drain = drain c.editor d in let long = (sound.modes.wide d killed).1 in let near = a.may.1 in
+        let kept : at_drain o w b ≡ record b { marks = at_mark o w b.marks } = rw (ap is_killed killed) refl in
+        subst (λ (z : Drain). IsPassedOrNoted w (mark z.marks o)) (sym (drain_looked o w c.editor.drains d ∙ kept)) (mark_tells o w b.marks (omega arith))
+
+-- ## What a place tells
+
+-- what is set at a seat is found there
+set_at : (l : List View) (j : ℕ) (w : View) → j < length l → view (set l j w) j ≡ w
+set_at l j w near = get_or-set_same l j w no_view near
+
+module _ (c : Core) (j : ℕ) (sound : IsSound c) where
+  new_at : (k : Kind) (w : View) → j < length c.views → (next_core c j k).views ≡ set c.views j w → w.seen ≡ c.given + 1 → place_in (answer_of c j k) ≡ c.given → IsNewPlace c j k
+  new_at k w there views seen told = record {
+    told = told;
+    unseen = sound.places.seen j (view c.views j) (at_or c.views j no_view there);
+    seen = ap (λ (l : List View). (view l j).seen) views ∙ (ap (λ (v : View). v.seen) (set_at c.views j w there) ∙ seen);
+  }
+
+  new_place : (k : Kind) → j < length c.views → takes_place k ≡ true → IsNewPlace c j k
+  new_place (DrawPlace t) there e = new_at (DrawPlace t) _ there refl refl refl
+  new_place (Publish t) there e = new_at (Publish t) _ there refl refl refl
+  new_place (PlaceDone d t) there e = new_at (PlaceDone d t) _ there refl refl refl
+  new_place (PlaceExecute n t) there e = new_at (PlaceExecute n t) _ there refl refl refl
+  new_place EnterSection there e = absurd (let h : false ≡ true = e in grind arith)
+  new_place (LoadRow w) there e = absurd (let h : false ≡ true = e in grind arith)
+  new_place LeaveSection there e = absurd (let h : false ≡ true = e in grind arith)
+  new_place (StoreRow w x) there e = absurd (let h : false ≡ true = e in grind arith)
+  new_place (LookSection o) there e = absurd (let h : false ≡ true = e in grind arith)
+  new_place (LoadMode d) there e = absurd (let h : false ≡ true = e in grind arith)
+  new_place (AddOwn d up) there e = absurd (let h : false ≡ true = e in grind arith)
+  new_place (AddShared d up) there e = absurd (let h : false ≡ true = e in grind arith)
+  new_place (Split t) there e = absurd (let h : false ≡ true = e in grind arith)
+  new_place (Join p) there e = absurd (let h : false ≡ true = e in grind arith)
+  new_place (Kill d) there e = absurd (let h : false ≡ true = e in grind arith)
+  new_place (LookCounter d o) there e = absurd (let h : false ≡ true = e in grind arith)
+  new_place (Fold d x) there e = absurd (let h : false ≡ true = e in grind arith)
+  new_place (LookZero d) there e = absurd (let h : false ≡ true = e in grind arith)
+  new_place (LiveShared d) there e = absurd (let h : false ≡ true = e in grind arith)
+  new_place (LiveMode d) there e = absurd (let h : false ≡ true = e in grind arith)
+  new_place (TakeTurn n) there e = absurd (let h : false ≡ true = e in grind arith)
+  new_place (SlotOut n) there e = absurd (let h : false ≡ true = e in grind arith)
+  new_place (SlotIn n) there e = absurd (let h : false ≡ true = e in grind arith)
+  new_place (GiveTurn n) there e = absurd (let h : false ≡ true = e in grind arith)
+
+pub places_are_new : PlacesAreNew
+places_are_new c j k sound a takes = new_place c j sound k a.there takes
+
+pub join_keeps_the_larger : JoinKeepsTheLarger
+join_keeps_the_larger c j p a = let ok = a.may in
+    ap (λ (v : View). v.seen) (get_or-set_other (set c.views j _) p j _ no_view (λ e. ok.0 (sym e)) ∙ set_at c.views j _ a.there)
 
 -- ## What a step leaves alone
 

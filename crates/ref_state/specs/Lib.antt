@@ -4,3 +4,4 @@ pub mod Soundness
 pub mod Runs
 pub mod Lives
 pub mod OneStep
+pub mod Owners

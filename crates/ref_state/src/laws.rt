@@ -3,7 +3,8 @@ ghost use Rattle.std.specs.Prelude.{◌≡◌, ℕ, List, sum_by};
 ghost use Rattle.ref_state.specs.State.{total};
 ghost use Rattle.ref_state.specs.Runs.{PlacesKept, SidesKept, SectionsKept, SplitCountsKept, FoldedCountsKept, ModesKept, ShownKept, TurnsKept, HoldsKept, SoundKept, AlwaysSound, ReadSideStays, RowsOfSerial, LastSerialAlone, ConfsStay, WordsAreCounters, ShownCounts, GetsMeetNoFold, FoldedIsHolds, LastPutEnds, DoneIsOver, OverStays};
 ghost use Rattle.ref_state.specs.Lives.{DonesFollowLives, DoneOnceInLife, LifeAfterItsDone};
-ghost use Rattle.ref_state.specs.OneStep.{PutThatFindsOne, WordsFollowCounts, OthersStay, EntriesAndPlacesLeft, GatheredHasAll};
+ghost use Rattle.ref_state.specs.OneStep.{PutThatFindsOne, WordsFollowCounts, OthersStay, EntriesAndPlacesLeft, GatheredHasAll, LookTells, PlacesAreNew, JoinKeepsTheLarger};
+ghost use Rattle.ref_state.specs.Owners.{HoldsHaveEntries, ExecutesHaveSubmits, PartOfItsSeat, NumbersStay};
 
 /// Every allowed step from a sound core leaves each place with one entry, and each entry with the serial of its place.
 pub fn places_kept()
@@ -131,6 +132,29 @@ pub fn others_stay()
 pub fn gathered_has_all()
     ensures quotas { EntriesAndPlacesLeft }
     ensures every { GatheredHasAll }
+{}
+
+/// After a look at a section word the seat has passed, or is noted with the odd word just found, for every grace period under way.
+pub fn look_tells()
+    ensures { LookTells }
+{}
+
+/// A place is none that its seat has seen before, and the seat has seen it afterwards. Who joins another has seen what either had.
+pub fn places_are_new()
+    ensures places { PlacesAreNew }
+    ensures joins { JoinKeepsTheLarger }
+{}
+
+/// A hold belongs to one entry by place and call, and an Execute to one submit by place, caller and number.
+pub fn holds_have_entries()
+    ensures holds { HoldsHaveEntries }
+    ensures executes { ExecutesHaveSubmits }
+{}
+
+/// A part has the number of the seat that it was split from, and no step changes a number.
+pub fn numbers_stay()
+    ensures parts { PartOfItsSeat }
+    ensures all { NumbersStay }
 {}
 
 /// The sums in the definitions are std's sums over a list.
