@@ -8,7 +8,7 @@ ghost use Rattle.ref_state.specs.Steps.{MayStep, count_or};
 use crate::counts::{BIAS, ZERO, count_word};
 use crate::section_conditions::shows;
 use crate::side_conditions::{have_passed, is_phase, phase_of};
-use ref_state::items::Items;
+use lists::items::Items;
 use ref_state::kinds::Kind;
 use ref_state::state::{Count, Drain, Editor, Phase, State, View};
 

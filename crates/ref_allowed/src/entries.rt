@@ -2,7 +2,7 @@
 ghost use Rattle.std.specs.Prelude.{◌≡◌, position};
 ghost use Rattle.ref_state.specs.Steps.{is_at};
 
-use ref_state::items::Items;
+use lists::items::Items;
 use ref_state::state::Entry;
 
 /// Where the entry of a place stands, if it does.

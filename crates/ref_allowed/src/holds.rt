@@ -3,7 +3,7 @@ ghost use Rattle.std.specs.Prelude.{◌≡◌, position, true};
 ghost use Rattle.ref_state.specs.Steps.{is_least, least, least_place, lesser, place_of, without_least, change};
 ghost use Rattle.ref_allowed.specs.HoldTests.{passes};
 
-use ref_state::items::Items;
+use lists::items::Items;
 use ref_state::kinds::Tag;
 use ref_state::state::Hold;
 

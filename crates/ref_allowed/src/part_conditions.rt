@@ -7,7 +7,7 @@ ghost use Rattle.ref_state.specs.Steps.{MayTake, first, is_at};
 use crate::entries::entry_index;
 use crate::reference_conditions::keeps_hold;
 use crate::section_conditions::{is_not_loaded, is_out};
-use ref_state::items::Items;
+use lists::items::Items;
 use ref_state::kinds::{Tag, Take};
 use ref_state::state::{Entry, Hold, LoadedMode, Role, Section, State, View};
 

@@ -7,7 +7,7 @@ ghost use Rattle.ref_state.specs.Steps.{MayLoad, MayAdd, Some_where, is_on, may_
 
 use crate::holds::HoldTest;
 use crate::section_conditions::{has_no_hold, is_entered, section_shows};
-use ref_state::items::Items;
+use lists::items::Items;
 use ref_state::kinds::Tag;
 use ref_state::state::{Editor, Hold, LoadedMode, State, View};
 

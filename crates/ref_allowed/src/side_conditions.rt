@@ -2,7 +2,7 @@
 ghost use Rattle.std.specs.Prelude.{◌≡◌, ◌≢◌, ◌↔◌, ◌<◌, ◌+◌, ℕ, length, IsTrue, slice_index};
 ghost use Rattle.ref_state.specs.State.{view, side, AllPassed, drain, mark};
 
-use ref_state::items::Items;
+use lists::items::Items;
 use ref_state::state::{Editor, Mark, Phase, State, View};
 
 fn has_passed(marks: &Items<Mark>, seat: u32) -> bool

@@ -5,7 +5,7 @@ ghost use Rattle.ref_state.specs.State.{view};
 ghost use Rattle.ref_state.specs.Steps.{Some_where, first, is_held, is_slot, is_home_slot, is_out_slot};
 
 use crate::reference_conditions::keeps_held;
-use ref_state::items::Items;
+use lists::items::Items;
 use ref_state::kinds::Tag;
 use ref_state::state::{State, Turn, View};
 

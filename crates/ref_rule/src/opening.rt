@@ -3,8 +3,8 @@ ghost use Rattle.std.specs.Prelude.{◌≡◌, ◌+◌, ◌*◌, ◌^◌, ◌<�
 ghost use Rattle.ref_state.specs.Soundness.{opened_core, live_disk, live_drain, seat_view, seats_from, sum_of};
 
 use crate::references::LIVE;
+use lists::items::Items;
 use ref_allowed::counts::{BIAS, ZERO};
-use ref_state::items::Items;
 use ref_state::state::{Disk, Drain, Editor, LoadedMode, Mark, Phase, Role, Section, State, View};
 use std::alloc::{AllocError, Global};
 

@@ -1,11 +1,11 @@
 //! Parts of a seat: what is split off, and what is joined.
-ghost use Rattle.std.specs.Prelude.{◌≡◌, ◌≢◌, ◌+◌, ◌-◌, ◌++◌, ◌^◌, ◌<◌, ◌==◌, if◌then◌else◌, length, IfOk, OnErr, OnOk};
+ghost use Rattle.std.specs.Prelude.{◌≡◌, ◌≢◌, ◌+◌, ◌-◌, ◌++◌, ◌^◌, ◌<◌, ◌==◌, if◌then◌else◌, length, max, IfOk, OnErr, OnOk};
 ghost use Rattle.ref_state.specs.State.{view};
 ghost use Rattle.ref_state.specs.Steps.{next_core, answer_of, is_at, is_on, first, without, least, listed, after_split, split_part, after_join, spent_view};
 
+use lists::items::Items;
 use ref_allowed::entries::entry_index;
 use ref_allowed::holds::{HoldTest, hold_index, remove_hold};
-use ref_state::items::Items;
 use ref_state::kinds::{Answer, Kind, Take};
 use ref_state::state::{Entry, Hold, LoadedMode, Role, Section, State, View};
 use std::alloc::{AllocError, Global};
@@ -103,16 +103,14 @@ pub fn split(alloc: Global, s: &mut State, seat: u32, take: Take) -> Result<Answ
     Ok(Answer::Nothing)
 }
 
-// A seat with all that a part kept.
+// A seat with all that a part kept, which has seen what either had.
 fn join_into(view: &mut View, holds: Items<Hold>, entries: Items<Entry>, left: u32, seen: u32)
     requires { view.old.left + left < 2 ^ 32 }
-    ensures { view.new ≡ record view.old { holds = holds; left = view.old.left + left; seen = (if view.old.seen - seen == 0 then seen else view.old.seen); entries = entries } }
+    ensures { view.new ≡ record view.old { holds = holds; left = view.old.left + left; seen = max view.old.seen seen; entries = entries } }
 {
     view.holds = holds;
     view.left += left;
-    if view.seen <= seen {
-        view.seen = seen;
-    }
+    view.seen = view.seen.max(seen);
     view.entries = entries;
 }
 
@@ -142,8 +140,8 @@ pub fn join(alloc: Global, s: &mut State, seat: u32, part: u32) -> Result<Answer
 {
     let from = s.views.at(part as usize);
     let into = s.views.at(seat as usize);
-    let holds = from.holds.joined(alloc, &into.holds)?;
-    let entries = from.entries.joined(alloc, &into.entries)?;
+    let holds = from.holds.concat(alloc, &into.holds)?;
+    let entries = from.entries.concat(alloc, &into.entries)?;
     let (left, seen) = (from.left, from.seen);
     join_into(s.views.at_mut(seat as usize), holds, entries, left, seen);
     spend(alloc, s.views.at_mut(part as usize));

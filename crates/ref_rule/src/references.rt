@@ -3,9 +3,9 @@ ghost use Rattle.std.specs.Prelude.{◌≡◌, ◌+◌, ◌++◌, ◌%◌, ◌^�
 ghost use Rattle.ref_state.specs.State.{view, disk as disk_at, no_count};
 ghost use Rattle.ref_state.specs.Steps.{next_core, answer_of, count_after, word_after, count_or, hold_of, section_got, loaded_mode, may_put, without_least, after_add};
 
+use lists::items::Items;
 use ref_allowed::counts::{BIAS, ZERO, count_word};
 use ref_allowed::holds::{HoldTest, remove_hold};
-use ref_state::items::Items;
 use ref_state::kinds::{Answer, Kind, Tag};
 use ref_state::state::{By, Count, Entry, Hold, LoadedMode, Mark, Phase, Section, State, View};
 use std::alloc::{AllocError, Global};
@@ -91,7 +91,7 @@ fn holds_got(alloc: Global, view: &View, disk: u32) -> Result<Items<Hold>, Alloc
         return view.holds.with_front(alloc, hold);
     }
     let none = Items::new(alloc);
-    none.joined(alloc, &view.holds)
+    none.concat(alloc, &view.holds)
 }
 
 // The holds that a seat has after a put on a disk.
@@ -99,7 +99,7 @@ fn holds_put(alloc: Global, view: &View, disk: u32) -> Result<Items<Hold>, Alloc
     ensures { IfOk result (λ r. r ≡ without_least (may_put disk) view.now.holds) }
 {
     let none = Items::new(alloc);
-    let mut holds = none.joined(alloc, &view.holds)?;
+    let mut holds = none.concat(alloc, &view.holds)?;
     remove_hold(&mut holds, &HoldTest::MayPut(disk));
     Ok(holds)
 }

@@ -3,7 +3,7 @@ ghost use Rattle.std.specs.Prelude.{◌≡◌, ◌+◌, ◌++◌, ◌%◌, ◌^�
 ghost use Rattle.ref_state.specs.State.{view, side, conf, looked, own_entry};
 ghost use Rattle.ref_state.specs.Steps.{next_core, answer_of, serial_of, at_mark, at_drain};
 
-use ref_state::items::Items;
+use lists::items::Items;
 use ref_state::kinds::{Answer, Kind, Tag};
 use ref_state::state::{By, Drain, Entry, Mark, Phase, Published, Section, State, View};
 use std::alloc::{AllocError, Global};
@@ -82,7 +82,7 @@ fn finished_entries(alloc: Global, view: &View) -> Result<Items<Entry>, AllocErr
         return view.entries.with_front(alloc, entry);
     }
     let none = Items::new(alloc);
-    none.joined(alloc, &view.entries)
+    none.concat(alloc, &view.entries)
 }
 
 /// The seat's word is made even. Where the section has its place, its entry is finished.
@@ -146,7 +146,7 @@ pub fn publish(alloc: Global, s: &mut State, seat: u32, call: Tag) -> Result<Ans
         .with_back(alloc, Published { place, call })?;
     let marks = Items::copies(alloc, s.seats as usize, Mark::Unseen)?;
     let none = Items::new(alloc);
-    let words = s.sides.at((serial % 2) as usize).joined(alloc, &none)?;
+    let words = s.sides.at((serial % 2) as usize).concat(alloc, &none)?;
     s.editor.confs.push(words)?;
     let view = s.views.at_mut(seat as usize);
     view.entries = entries;

@@ -3,8 +3,8 @@ ghost use Rattle.std.specs.Prelude.{◌≡◌, ◌+◌, ◌/◌, ◌^◌, ◌<�
 ghost use Rattle.ref_state.specs.State.{view};
 ghost use Rattle.ref_state.specs.Steps.{next_core, answer_of, is_slot, change, without};
 
+use lists::items::Items;
 use ref_allowed::holds::{HoldTest, hold_place, mark_executed};
-use ref_state::items::Items;
 use ref_state::kinds::{Answer, Kind, Tag};
 use ref_state::state::{By, Entry, State, Turn};
 use std::alloc::{AllocError, Global};

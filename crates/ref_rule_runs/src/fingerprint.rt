@@ -1,5 +1,5 @@
 //! A number that tells two states apart.
-use ref_rule::items::Items;
+use lists::items::Items;
 use ref_rule::state::{
     By, Count, Disk, Drain, Entry, Hold, LoadedMode, Mark, Phase, Role, Section, State, View,
 };

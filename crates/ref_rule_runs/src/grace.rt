@@ -1,6 +1,6 @@
 //! Soundness of places, sides and sections.
 use crate::counts::{EntryTest, entries};
-use ref_rule::items::Items;
+use lists::items::Items;
 use ref_rule::state::{By, Editor, Entry, Mark, Role, Section, State, View};
 
 // How many serials are published up to the place.

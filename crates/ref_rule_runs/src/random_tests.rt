@@ -2,9 +2,9 @@
 use crate::driver::{opened, tried};
 use crate::references::{BIAS, word_sum};
 use crate::soundness::first_broken;
+use lists::items::Items;
 use rand_core::utils::NextWord;
 use rand_pcg::Pcg32;
-use ref_rule::items::Items;
 use ref_rule::state::{Count, LoadedMode, Mark, Phase, Role, State, View};
 use ref_rule::{Kind, Tag, Take};
 use std::alloc::Global;

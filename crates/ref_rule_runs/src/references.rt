@@ -1,7 +1,7 @@
 //! Soundness of references: counts, modes, and what is shown.
 use crate::counts::{EntryTest, HoldTest, entries, holds};
 use crate::grace::{all_passed, is_awaited, read_serial};
-use ref_rule::items::Items;
+use lists::items::Items;
 use ref_rule::state::{Count, Disk, Drain, LoadedMode, Phase, Section, State, View};
 
 /// 2^63.

@@ -64,7 +64,7 @@ module _ (n s : ℕ) (disks : List Disk) (k : Editor) (views : List View) (d : �
       → ((j : ℕ) (v : View) → At views j v → is_open v.section ≡ true → MayLoad k v d → IsLiveOrAwaited (drain k d) j v.word → IsLiveOrAwaited b j v.word)
       → ((j : ℕ) (v : View) → At views j v → MayLoad k v d → Dead (drain k d).phase → Dead b.phase)
       → (b.phase ≡ phase.Killed → (o : ℕ) (y : Count) → get_or b.looked o None ≡ Some y → AllPassed n b.marks × (get_or x.own o no_count ≡ y))
-      → (b.phase ≡ phase.Killed → length b.looked ≡ n)
+      → (b.phase ≡ phase.Killed → (length b.looked ≡ n) × (length b.marks ≡ n))
       → ModeSnapshots n disks k views → ModeSnapshots n (set disks d x) k' views
   modes_at mode live dead looked wide m = record {
     mode = λ e. dite (ℕ_discrete e d)
@@ -76,7 +76,7 @@ module _ (n s : ℕ) (disks : List Disk) (k : Editor) (views : List View) (d : �
         (λ t. subst (λ i. Looked i (get_or (set disks d x) i no_disk) (drain k' i)) (sym t)
         (subst (λ (z : Disk × Drain). Looked d z.0 z.1) (λ i. (sym (get_or-set_same disks d x no_disk near) i, sym (get_or-set_same k.drains d b no_drain near') i)) looked))
         (λ f. subst (λ (z : Disk × Drain). Looked e z.0 z.1) (λ i. (sym (get_or-set_other disks d e x no_disk f) i, sym (get_or-set_other k.drains d e b no_drain f) i)) (m.looked e));
-    wide = at_one (λ _ y. y.phase ≡ phase.Killed → length y.looked ≡ n) k.drains d b no_drain near' wide (λ e _. m.wide e);
+    wide = at_one (λ _ y. y.phase ≡ phase.Killed → (length y.looked ≡ n) × (length y.marks ≡ n)) k.drains d b no_drain near' wide (λ e _. m.wide e);
   }
     where
       Looked : ℕ → Disk → Drain → Type 0

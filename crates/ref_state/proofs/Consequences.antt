@@ -138,7 +138,7 @@ gets_meet_no_fold c j d sound a = ⊎_elim
     a
 
 -- a disk that isn't live is there
-not_live_there : (ds : List Drain) (d : ℕ) → ((get_or ds d no_drain).phase ≢ phase.Live) → d < length ds
+pub not_live_there : (ds : List Drain) (d : ℕ) → ((get_or ds d no_drain).phase ≢ phase.Live) → d < length ds
 not_live_there [] d other = absurd (other refl)
 not_live_there (x ∷ xs) zero other = omega arith
 not_live_there (x ∷ xs) (suc d) other = let r = not_live_there xs d other in omega arith

@@ -9,6 +9,7 @@ use Rattle.ref_state.specs.declared.state.Role.TheVariants.{Seat, Part, Spent}
 use Rattle.ref_state.specs.declared.state.View.{View}
 use Rattle.ref_state.specs.declared.state.Count.{Count}
 use Rattle.ref_state.specs.declared.state.Mark.{Mark}
+use Rattle.ref_state.specs.declared.state.Mark.TheVariants.{Unseen}
 use Rattle.ref_state.specs.declared.state.Phase.{Phase}
 use Rattle.ref_state.specs.declared.state.Phase.TheVariants as phase
 use Rattle.ref_state.specs.declared.state.Drain.{Drain}
@@ -111,7 +112,7 @@ module _ (c : Core) (j : ℕ) (v : View) (sits : At c.views j v) (seat : v.role 
       → ((i : ℕ) (u : View) → At c.views i u → is_open u.section ≡ true → MayLoad c.editor u d → IsLiveOrAwaited (drain c.editor d) i u.word → IsLiveOrAwaited b i u.word)
       → ((i : ℕ) (u : View) → At c.views i u → MayLoad c.editor u d → Dead (drain c.editor d).phase → Dead b.phase)
       → (b.phase ≡ phase.Killed → (o : ℕ) (y : Count) → get_or b.looked o None ≡ Some y → AllPassed c.seats b.marks × (get_or x.own o no_count ≡ y))
-      → (b.phase ≡ phase.Killed → length b.looked ≡ c.seats)
+      → (b.phase ≡ phase.Killed → (length b.looked ≡ c.seats) × (length b.marks ≡ c.seats))
       → (Shows c.editor c.serial d → b.phase ≡ phase.Live)
       → ((i : ℕ) (u : View) (r : ℕ) → At c.views i u → Reads u r → Shows c.editor r d → IsLiveOrAwaited (drain c.editor d) i u.word → IsLiveOrAwaited b i u.word)
       → Whole (Other d x b)
@@ -139,7 +140,7 @@ module _ (c : Core) (j : ℕ) (v : View) (sits : At c.views j v) (seat : v.role 
       ((λ e. absurd (omega arith)), λ e. absurd (let h : phase.Killed ≡ phase.Live = e in grind arith))
       (λ i u at o m g. inr (refl, fresh_waits c.seats i u.word))
       (λ i u at m dead. absurd (dead_or (drain c.editor d).phase phase.Live ok.2 (λ e. grind arith) (λ e. grind arith) dead))
-      (λ _ o y e. absurd (none_there c.seats o y e)) (λ _. length-replicate c.seats None)
+      (λ _ o y e. absurd (none_there c.seats o y e)) (λ _. (length-replicate c.seats None, length-replicate c.seats Unseen))
       (λ shows. absurd (ok.3 shows))
       (λ i u r at reads shows g. inr (refl, fresh_waits c.seats i u.word))
 
@@ -152,7 +153,7 @@ module _ (c : Core) (j : ℕ) (v : View) (sits : At c.views j v) (seat : v.role 
       (λ killed i y e. ⊎_elim (λ (t : get_or b.looked i None ≡ get_or (drain c.editor d).looked i None). s.modes.looked d killed i y (sym t ∙ e))
       (λ (t : (i ≡ o) × (get_or b.looked i None ≡ Some own)). (ok.4, ap (λ q. get_or (disk c d).own q no_count) t.0 ∙ some_is (sym t.1 ∙ e)))
       (or_set (drain c.editor d).looked o i (Some own) None))
-      (λ killed. length-set (drain c.editor d).looked o (Some own) ∙ s.modes.wide d killed) (s.shown.last d) (λ i u r at reads shows g. g))
+      (λ killed. (length-set (drain c.editor d).looked o (Some own) ∙ (s.modes.wide d killed).0, (s.modes.wide d killed).1)) (s.shown.last d) (λ i u r at reads shows g. g))
 
   -- ## fold
 
@@ -178,7 +179,7 @@ module _ (c : Core) (j : ℕ) (v : View) (sits : At c.views j v) (seat : v.role 
       at_disk d k b ok.1
       (λ was. counts_fold c.seats (entries has_got c.views) s.puts (holds_on d c.views) delta (disk c d) (drain c.editor d) ok.2
       (let a = few_got c.given c.serial c.quotas c.editor.published c.views s.places in let q = holds_few d c.views in let r = s.references.puts in omega arith)
-      (all_looked c.seats (drain c.editor d).looked (disk c d).own (s.modes.wide d ok.2) was.long.0 ok.3 (λ o y e. (s.modes.looked d ok.2 o y e).1)) ok.4 was)
+      (all_looked c.seats (drain c.editor d).looked (disk c d).own (s.modes.wide d ok.2).0 was.long.0 ok.3 (λ o y e. (s.modes.looked d ok.2 o y e).1)) ok.4 was)
       ((λ e. absurd (let l = (s.modes.mode d).0 e in let h : phase.Killed ≡ phase.Live = sym ok.2 ∙ l in grind arith)), λ e. absurd (let h : phase.Folded ≡ phase.Live = e in grind arith))
       (λ i u at o m g. absurd (no_wait d delta ok i u at (open_near i u at o) g))
       (λ i u at m dead. inr refl)

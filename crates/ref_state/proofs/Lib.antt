@@ -19,3 +19,6 @@ pub mod TurnSteps
 pub mod Law
 pub mod Consequences
 pub mod Needs
+pub mod LivesKept
+pub mod OneStepTells
+pub mod OwnersKept

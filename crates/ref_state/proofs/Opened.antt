@@ -3,10 +3,11 @@ use Rattle.std.proofs.Common.{◌≡◌, ◌⊎◌, ℕ, zero, suc, ◌+◌, ◌
 use mathlib.Core.Option.{some-injective, some-ne-none}
 use lib.ListN.{length-replicate}
 use Rattle.ref_state.specs.declared.state.View.{View}
+use Rattle.ref_state.specs.declared.state.Mark.TheVariants.{Passed}
 use Rattle.ref_state.specs.declared.state.Phase.TheVariants as phase
 use Rattle.ref_state.specs.declared.state.Drain.{Drain}
 use Rattle.ref_state.specs.declared.state.Disk.{Disk}
-use Rattle.ref_state.specs.State.{At, total, ups, downs, no_count, no_disk, no_drain, of_slot, one_if, kept, has_place, any_entry, published_entry, has_got, any_hold, on_disk, waiting_hold, done_hold, bare_hold, execute_of, submit_got}
+use Rattle.ref_state.specs.State.{At, total, ups, downs, no_count, no_disk, no_drain, of_slot, one_if, kept, has_place, any_entry, published_entry, has_got, any_hold, on_disk, got_by, waiting_hold, done_hold, bare_hold, execute_of, submit_got}
 use Rattle.ref_state.specs.Soundness.{Each, Every, IsWithin, seat_view, seats_from, sum_of, live_disk, live_drain, opened_core}
 use Rattle.ref_state.proofs.Whole.{Counts, Whole}
 use Rattle.ref_state.proofs.Lists.{one_if_not}
@@ -77,6 +78,7 @@ opens quotas disks slots words small = record {
     left = omega (arith, lefts 0 quotas);
     small = small;
     seen = all_seats _ quotas (λ j q near. omega arith);
+    known = all_seats _ quotas (λ j q near. (tt, tt));
   };
   sides = record {
     two = refl;
@@ -89,6 +91,7 @@ opens quotas disks slots words small = record {
   };
   sections = record {
     many = (let l = count_seats 0 quotas in omega arith);
+    marked = length-replicate (length quotas) Passed;
     seats_first = all_seats _ quotas (λ j q near. ((λ _. near), λ e. refl));
     odd = all_seats _ quotas (λ j q near. refl);
     old = all_seats _ quotas (λ j q near s e. absurd (let h : None ≡ Some s = e in grind arith));
@@ -108,13 +111,15 @@ opens quotas disks slots words small = record {
   };
   shown = record { last = λ d _. phase_open d; sections = λ d. all_seats _ quotas (λ j q near s e. absurd (let h : None ≡ Some s = e in grind arith)) };
   turns = record {
+    numbered = all_seats _ quotas (λ j q near. ((λ _. refl), near));
     holders = λ s near. nothing_yet (λ v. total (of_slot s) v.turns) (λ n q. refl) 0 quotas ∙ sym (ap (λ t. one_if (not (t == 0))) (⊎_elim (λ (t : get_or (replicate slots 0) s 0 ≡ 0). t) (λ (t : get_or (replicate slots 0) s 0 ≡ 0). t) (or_replicate slots s 0 0)));
     owner = all_seats _ quotas (λ j q near. tt);
   };
   executes = record {
-    submits = λ k. let a = nothing_yet (λ v. total (waiting_hold k) v.holds) (λ n q. refl) 0 quotas in let b = nothing_yet (λ v. total (execute_of k) (kept v)) (λ n q. refl) 0 quotas in let d = nothing_yet (λ v. total (submit_got k) (kept v)) (λ n q. refl) 0 quotas in omega arith;
-    executed = λ k. let a = nothing_yet (λ v. total (done_hold k) v.holds) (λ n q. refl) 0 quotas in omega arith;
-    bare = λ k. let a = nothing_yet (λ v. total (bare_hold k) v.holds) (λ n q. refl) 0 quotas in omega arith;
+    of_one = λ k p. let a = nothing_yet (λ v. total (got_by k p) v.holds) (λ n q. refl) 0 quotas in omega arith;
+    submits = λ k p. let a = nothing_yet (λ v. total (waiting_hold k p) v.holds) (λ n q. refl) 0 quotas in let b = nothing_yet (λ v. total (execute_of k p) (kept v)) (λ n q. refl) 0 quotas in let d = nothing_yet (λ v. total (submit_got k p) (kept v)) (λ n q. refl) 0 quotas in omega arith;
+    executed = λ k p. let a = nothing_yet (λ v. total (done_hold k p) v.holds) (λ n q. refl) 0 quotas in omega arith;
+    bare = λ k p. let a = nothing_yet (λ v. total (bare_hold k p) v.holds) (λ n q. refl) 0 quotas in omega arith;
   };
 }
   where

@@ -1,5 +1,5 @@
 -- split and join keep soundness: they leave all collections as they are.
-use Rattle.std.proofs.Common.{◌≡◌, ◌≢◌, ◌⊎◌, ℕ, ◌+◌, ◌-◌, ◌<◌, ◌≤◌, ◌==◌, cond, Bool, true, false, List, [], ◌∷◌, ◌++◌, length, set, sym, refl, ap, ◌∙◌, subst, inl, inr, ⊎_elim, arith, Some, None, length-set, length-append}
+use Rattle.std.proofs.Common.{◌≡◌, ◌≢◌, ◌⊎◌, ℕ, ◌+◌, ◌<◌, ◌≤◌, List, [], ◌∷◌, ◌++◌, length, set, sym, refl, ap, ◌∙◌, subst, inl, inr, ⊎_elim, arith, Some, None, length-set, length-append, max}
 use mathlib.Core.Option.{some}
 use lib.ListN.{get_elem?}
 use Rattle.ref_state.specs.declared.kinds.Take.{Take}
@@ -12,13 +12,13 @@ use Rattle.ref_state.specs.declared.state.Role.TheVariants.{Seat, Part, Spent}
 use Rattle.ref_state.specs.declared.state.LoadedMode.TheVariants.{NotLoaded}
 use Rattle.ref_state.specs.declared.state.View.{View}
 use Rattle.ref_state.specs.declared.state.State.{State as Core}
-use Rattle.ref_state.specs.State.{At, total, own_entry, kept, entries, holds, has_place, any_entry, has_got, submit_got, bare_got, execute_of, published_entry, any_hold, on_disk, waiting_hold, done_hold, bare_hold, of_slot, is_odd, is_open, read, Reads, Shows, mark, IsAwaited, IsLiveOrAwaited, disk, drain, no_view, view}
+use Rattle.ref_state.specs.State.{At, total, own_entry, kept, entries, holds, has_place, any_entry, has_got, got_at, got_by, submit_got, bare_got, execute_of, published_entry, any_hold, on_disk, waiting_hold, done_hold, bare_hold, of_slot, is_odd, is_open, read, Reads, Shows, mark, IsAwaited, IsLiveOrAwaited, disk, drain, no_view, view}
 use Rattle.ref_state.specs.Steps.{is_least, after_step, MayStep, is_on, is_at, after_split, split_part, MayTake, after_join, spent_view, without, MayLoad}
-use Rattle.ref_state.specs.Soundness.{Each, Every, EntryOk, LoadedModeFits}
+use Rattle.ref_state.specs.Soundness.{Each, Every, EntryOk, KeepsSeen, LoadedModeFits}
 use Rattle.ref_state.proofs.Whole.{Counts, Whole}
 use Rattle.ref_state.proofs.Lists.{total_append, total_set, each_set, at_or}
 use Rattle.ref_state.proofs.ShownKept.{loaded_stays}
-use Rattle.ref_state.proofs.Lists.{at_end, set_else, every_append, every_left, every_right, every_without, parted, some_append}
+use Rattle.ref_state.proofs.Lists.{at_end, set_else, every_append, every_left, every_map, every_right, every_without, parted, some_append}
 
 -- ## A split
 
@@ -51,6 +51,12 @@ turns_parted take.Nothing v = (refl, refl)
 turns_parted (take.Hold d) v = (refl, refl)
 turns_parted take.Place v = (refl, refl)
 turns_parted (take.Entry p) v = (refl, refl)
+
+pub numbers_parted : (t : Take) (v : View) → ((after_split t v).number ≡ v.number) × ((split_part t v).number ≡ v.number)
+numbers_parted take.Nothing v = (refl, refl)
+numbers_parted (take.Hold d) v = (refl, refl)
+numbers_parted take.Place v = (refl, refl)
+numbers_parted (take.Entry p) v = (refl, refl)
 
 -- what the seat keeps of itself
 pub same_seat : (t : Take) (v : View) → ((after_split t v).role ≡ v.role) × ((after_split t v).word ≡ v.word) × ((after_split t v).section ≡ v.section) × ((after_split t v).loaded ≡ v.loaded) × ((after_split t v).seen ≡ v.seen)
@@ -96,6 +102,8 @@ module _ (c : Core) (j : ℕ) (v : View) (sits : At c.views j v) (seat : v.role 
       left = let a = total_split (λ x. x.left) c.views j v w u sits (left_parted t v ok.1) in let b = s.places.left in omega arith;
       small = s.places.small;
       seen = each_split (λ _ x. x.seen ≤ c.given) c.views j w u s.places.seen (subst (λ (n : ℕ). n ≤ c.given) (sym me.4) (s.places.seen j v sits)) (λ i _. subst (λ (n : ℕ). n ≤ c.given) (sym it.4) (s.places.seen j v sits));
+      known = let k = s.places.known j v sits in let es = every_parted (λ e. e.place < v.seen) t v k.0 in let hs = every_hold_parted (λ h. h.place < v.seen) t v k.1 in
+          each_split (λ _ x. KeepsSeen x) c.views j w u s.places.known (knows w es.0 hs.0 me.4) (λ i _. knows u es.1 hs.1 it.4);
     };
     sides = record {
       two = s.sides.two;
@@ -108,6 +116,7 @@ module _ (c : Core) (j : ℕ) (v : View) (sits : At c.views j v) (seat : v.role 
     };
     sections = record {
       many = (let l = length-set c.views j w in let a = length-append (set c.views j w) (u ∷ []) in let m = s.sections.many in omega arith);
+      marked = s.sections.marked;
       seats_first = each_split (λ i x. (x.role ≡ Seat → i < c.seats) × (x.role ≢ Seat → x.section ≡ Out)) c.views j w u s.sections.seats_first
           ((λ e. (s.sections.seats_first j v sits).0 seat), λ other. absurd (other (me.0 ∙ seat))) (λ i _. ((λ e. absurd (let h : Part ≡ Seat = sym it.0 ∙ e in grind arith)), λ _. it.2));
       odd = each_split (λ _ x. is_odd x.word ≡ is_open x.section) c.views j w u s.sections.odd (ap is_odd me.1 ∙ (s.sections.odd j v sits ∙ ap is_open (sym me.2))) (λ i _. ap is_odd it.1 ∙ ap is_open (sym it.2));
@@ -130,18 +139,25 @@ module _ (c : Core) (j : ℕ) (v : View) (sits : At c.views j v) (seat : v.role 
       sections = λ d. each_split (λ i x. (r : ℕ) → Reads x r → Shows c.editor r d → IsLiveOrAwaited (drain c.editor d) i x.word) c.views j w u (s.shown.sections d)
           (λ r e shows. subst (IsLiveOrAwaited (drain c.editor d) j) (sym me.1) (s.shown.sections d j v sits r (sym (ap read me.2) ∙ e) shows)) (λ i _ r e shows. absurd (none_read t v it.2 r e));
     };
-    turns = let both = turns_parted t v in record {
+    turns = let both = turns_parted t v in let named = numbers_parted t v in record {
+      numbered = each_split (λ i x. (i < c.seats → x.number ≡ i) × (x.number < c.seats)) c.views j w u s.turns.numbered
+          (subst (λ (n : ℕ). (j < c.seats → n ≡ j) × (n < c.seats)) (sym named.0) (s.turns.numbered j v sits))
+          (λ i end. ((λ near. absurd (let m = s.sections.many in omega arith)), subst (λ (n : ℕ). n < c.seats) (sym named.1) (s.turns.numbered j v sits).1));
       holders = λ n near. total_split (λ x. total (of_slot n) x.turns) c.views j v w u sits (let a = ap (total (of_slot n)) both.0 in let b = ap (total (of_slot n)) both.1 in omega arith) ∙ s.turns.holders n near;
       owner = each_split (λ i x. Every (λ y. get_elem? c.turns y.slot ≡ some (i + 1)) x.turns) c.views j w u s.turns.owner (subst (Every (λ y. get_elem? c.turns y.slot ≡ some (j + 1))) (sym both.0) (s.turns.owner j v sits))
           (λ i _. subst (Every (λ y. get_elem? c.turns y.slot ≡ some (i + 1))) (sym both.1) tt);
     };
     executes = record {
-      submits = λ k. let a = holds_same (waiting_hold k) in let b = entries_same (execute_of k) in let d = entries_same (submit_got k) in let e = s.executes.submits k in omega arith;
-      executed = λ k. let a = holds_same (done_hold k) in let b = entries_same (execute_of k) in let e = s.executes.executed k in omega arith;
-      bare = λ k. let a = holds_same (bare_hold k) in let b = entries_same (bare_got k) in let e = s.executes.bare k in omega arith;
+      of_one = λ k p. let a = holds_same (got_by k p) in let b = entries_same (got_at k p) in let e = s.executes.of_one k p in omega arith;
+      submits = λ k p. let a = holds_same (waiting_hold k p) in let b = entries_same (execute_of k p) in let d = entries_same (submit_got k p) in let e = s.executes.submits k p in omega arith;
+      executed = λ k p. let a = holds_same (done_hold k p) in let b = entries_same (execute_of k p) in let e = s.executes.executed k p in omega arith;
+      bare = λ k p. let a = holds_same (bare_hold k p) in let b = entries_same (bare_got k p) in let e = s.executes.bare k p in omega arith;
     };
   }
     where
+      knows : (x : View) → Every (λ e. e.place < v.seen) (kept x) → Every (λ h. h.place < v.seen) x.holds → x.seen ≡ v.seen → KeepsSeen x
+      knows x es hs same = (subst (λ (n : ℕ). Every (λ e. e.place < n) (kept x)) (sym same) es, subst (λ (n : ℕ). Every (λ h. h.place < n) x.holds) (sym same) hs)
+
       none_read : (t : Take) (v : View) → (split_part t v).section ≡ Out → (r : ℕ) → Reads (split_part t v) r → ⊥
       none_read t v out r e = let h : None ≡ Some r = sym (ap read out) ∙ e in grind arith
 
@@ -167,7 +183,8 @@ module _ (c : Core) (j : ℕ) (v : View) (sits : At c.views j v) (seat : v.role 
       rising = s.places.rising;
       left = let a = total_join p ok (λ x. x.left) (omega arith) in let b = s.places.left in omega arith;
       small = s.places.small;
-      seen = each_join p ok (λ _ x. x.seen ≤ c.given) s.places.seen (later_of v.seen u.seen (s.places.seen j v sits) (s.places.seen p u (there p ok))) (omega arith);
+      seen = each_join p ok (λ _ x. x.seen ≤ c.given) s.places.seen (let a = s.places.seen j v sits in let b = s.places.seen p u (there p ok) in omega arith) (omega arith);
+      known = each_join p ok (λ _ x. KeepsSeen x) s.places.known (knows_both u (s.places.known j v sits) (s.places.known p u (there p ok))) (tt, tt);
     };
     sides = record {
       two = s.sides.two;
@@ -180,6 +197,7 @@ module _ (c : Core) (j : ℕ) (v : View) (sits : At c.views j v) (seat : v.role 
     };
     sections = record {
       many = (let l = length-set c.views j w in let a = length-set (set c.views j w) p (spent_view u) in let m = s.sections.many in omega arith);
+      marked = s.sections.marked;
       seats_first = each_join p ok (λ i x. (x.role ≡ Seat → i < c.seats) × (x.role ≢ Seat → x.section ≡ Out)) s.sections.seats_first (s.sections.seats_first j v sits) ((λ e. absurd (let h : Spent ≡ Seat = e in grind arith)), λ _. refl);
       odd = each_join p ok (λ _ x. is_odd x.word ≡ is_open x.section) s.sections.odd (s.sections.odd j v sits) (s.sections.odd p u (there p ok) ∙ ap is_open out);
       old = each_join p ok (λ i x. (r : ℕ) → Reads x r → r + 1 ≡ c.serial → IsAwaited (mark c.editor.marks i) x.word) s.sections.old (s.sections.old j v sits) (λ r e last. absurd (let h : None ≡ Some r = e in grind arith));
@@ -200,13 +218,15 @@ module _ (c : Core) (j : ℕ) (v : View) (sits : At c.views j v) (seat : v.role 
       sections = λ d. each_join p ok (λ i x. (r : ℕ) → Reads x r → Shows c.editor r d → IsLiveOrAwaited (drain c.editor d) i x.word) (s.shown.sections d) (s.shown.sections d j v sits) (λ r e shows. absurd (let h : None ≡ Some r = e in grind arith));
     };
     turns = record {
+      numbered = each_join p ok (λ i x. (i < c.seats → x.number ≡ i) × (x.number < c.seats)) s.turns.numbered (s.turns.numbered j v sits) (s.turns.numbered p u (there p ok));
       holders = λ n near. total_join p ok (λ x. total (of_slot n) x.turns) (let a = ap (total (of_slot n)) ok.6 in omega arith) ∙ s.turns.holders n near;
       owner = each_join p ok (λ i x. Every (λ y. get_elem? c.turns y.slot ≡ some (i + 1)) x.turns) s.turns.owner (s.turns.owner j v sits) tt;
     };
     executes = record {
-      submits = λ k. let a = holds_same p ok (waiting_hold k) in let b = entries_same p ok (execute_of k) in let d = entries_same p ok (submit_got k) in let e = s.executes.submits k in omega arith;
-      executed = λ k. let a = holds_same p ok (done_hold k) in let b = entries_same p ok (execute_of k) in let e = s.executes.executed k in omega arith;
-      bare = λ k. let a = holds_same p ok (bare_hold k) in let b = entries_same p ok (bare_got k) in let e = s.executes.bare k in omega arith;
+      of_one = λ k q. let a = holds_same p ok (got_by k q) in let b = entries_same p ok (got_at k q) in let e = s.executes.of_one k q in omega arith;
+      submits = λ k q. let a = holds_same p ok (waiting_hold k q) in let b = entries_same p ok (execute_of k q) in let d = entries_same p ok (submit_got k q) in let e = s.executes.submits k q in omega arith;
+      executed = λ k q. let a = holds_same p ok (done_hold k q) in let b = entries_same p ok (execute_of k q) in let e = s.executes.executed k q in omega arith;
+      bare = λ k q. let a = holds_same p ok (bare_hold k q) in let b = entries_same p ok (bare_got k q) in let e = s.executes.bare k q in omega arith;
     };
   }
     where
@@ -233,9 +253,9 @@ module _ (c : Core) (j : ℕ) (v : View) (sits : At c.views j v) (seat : v.role 
       may_more : (u : View) (d : ℕ) → MayLoad c.editor v d → MayLoad c.editor (after_join v u) d
       may_more u d may = ⊎_elim (λ (m : (r : ℕ) × Reads v r × Shows c.editor r d). inl m) (λ m. inr (some_append (is_on d) u.holds v.holds m)) may
 
-      later_of : (a b : ℕ) → a ≤ c.given → b ≤ c.given → cond (a - b == 0) b a ≤ c.given
-      later_of a b x y = by_case (a - b == 0)
-        where
-          by_case : (z : Bool) → cond z b a ≤ c.given
-          by_case true = y
-          by_case false = x
+      knows_both : (u : View) → KeepsSeen v → KeepsSeen u → KeepsSeen (after_join v u)
+      knows_both u a b = let m : ℕ = max v.seen u.seen in let P : Entry → Type 0 = λ e. e.place < m in let Q : Hold → Type 0 = λ h. h.place < m in
+          let mine : Every P (kept v) = every_map (λ (x : Entry) (h : x.place < v.seen). omega arith) (kept v) a.0 in let other : Every P (kept u) = every_map (λ (x : Entry) (h : x.place < u.seen). omega arith) (kept u) b.0 in (
+            every_append P (own_entry v.section) (u.entries ++ v.entries) (every_left P (own_entry v.section) v.entries mine) (every_append P u.entries v.entries (every_right P (own_entry u.section) u.entries other) (every_right P (own_entry v.section) v.entries mine)),
+            every_append Q u.holds v.holds (every_map (λ (x : Hold) (h : x.place < u.seen). omega arith) u.holds b.1) (every_map (λ (x : Hold) (h : x.place < v.seen). omega arith) v.holds a.1),
+          )

@@ -5,6 +5,7 @@ use lib.ListN.{get_elem?}
 use Rattle.ref_state.specs.declared.kinds.Tag.{Tag}
 use Rattle.ref_state.specs.declared.state.By.TheVariants as by
 use Rattle.ref_state.specs.declared.state.Entry.{Entry}
+use Rattle.ref_state.specs.declared.state.Hold.{Hold}
 use Rattle.ref_state.specs.declared.state.Section.{Section}
 use Rattle.ref_state.specs.declared.state.Section.TheVariants.{Out, In, Placed}
 use Rattle.ref_state.specs.declared.state.View.{View}
@@ -12,7 +13,7 @@ use Rattle.ref_state.specs.declared.state.Published.{Published}
 use Rattle.ref_state.specs.declared.state.State.{State as Core}
 use Rattle.ref_state.specs.State.{At, total, own_entry, kept, one_if, has_place, any_entry, published_entry, is_publish}
 use Rattle.ref_state.specs.Steps.{after_finish}
-use Rattle.ref_state.specs.Soundness.{Every, serial_at, EntryOk, PlacesAndSerials}
+use Rattle.ref_state.specs.Soundness.{Every, serial_at, EntryOk, KeepsSeen, PlacesAndSerials}
 use Rattle.ref_state.proofs.Lists.{total_set, total_same, total_one, every_map, each_move, each_set, once_more, one_if_le, one_if_not, total_le}
 
 -- w keeps what v keeps, and e
@@ -37,14 +38,21 @@ adds_finished c e v = ((λ f. more f v.section), λ P mine all. every P mine v.s
     every P mine In all = (mine, all)
     every P mine (Placed x) all = (all.0, (mine, all.1))
 
+-- after a step on the clock all places so far are seen
+knows_more : (n : ℕ) (e : Entry) (v w : View) → Adds e v w → e.place ≡ n → w.seen ≡ n + 1 → v.seen ≤ n → Every (λ x. x.place < v.seen) (kept v) → Every (λ h. h.place < v.seen) w.holds → KeepsSeen w
+knows_more n e v w adds here seen before es hs = (
+  adds.1 (λ x. x.place < w.seen) (omega arith) (every_map (λ (x : Entry) (h : x.place < v.seen). omega arith) (kept v) es),
+  every_map (λ (x : Hold) (h : x.place < v.seen). omega arith) w.holds hs,
+)
+
 module _ (n s q : ℕ) (ps : List Published) (views : List View) (j : ℕ) (v w : View) (sits : At views j v) (p : PlacesAndSerials n s q ps views) where
   abbrev E : (Entry → ℕ) → View → ℕ
   E f u = total f (kept u)
 
   -- the seat's entries have the same places, serials and steps, and it has as many places left
   pub places_move : ((k : ℕ) → E (has_place k) w ≡ E (has_place k) v) → E any_entry w ≡ E any_entry v → E published_entry w ≡ E published_entry v → Every (EntryOk n ps) (kept w)
-      → w.left ≡ v.left → w.seen ≤ n → PlacesAndSerials n s q ps (set views j w)
-  places_move once all published ok left seen = record {
+      → w.left ≡ v.left → w.seen ≡ v.seen → Every (λ e. e.place < v.seen) (kept w) → Every (λ h. h.place < v.seen) w.holds → PlacesAndSerials n s q ps (set views j w)
+  places_move once all published ok left seen es hs = record {
     once = λ k. total_same (E (has_place k)) views j v w sits (once k) ∙ p.once k;
     all = total_same (E any_entry) views j v w sits all ∙ p.all;
     each = each_set (λ _ u. Every (EntryOk n ps) (kept u)) views j w p.each ok;
@@ -52,11 +60,14 @@ module _ (n s q : ℕ) (ps : List Published) (views : List View) (j : ℕ) (v w 
     rising = p.rising;
     left = omega (arith, total_same (λ u. u.left) views j v w sits left, p.left);
     small = p.small;
-    seen = each_set (λ _ u. u.seen ≤ n) views j w p.seen seen;
+    seen = each_set (λ _ u. u.seen ≤ n) views j w p.seen (subst (λ (z : ℕ). z ≤ n) (sym seen) (p.seen j v sits));
+    known = each_set (λ _ u. KeepsSeen u) views j w p.known
+        (subst (λ (z : ℕ). Every (λ e. e.place < z) (kept w)) (sym seen) es, subst (λ (z : ℕ). Every (λ h. h.place < z) w.holds) (sym seen) hs);
   }
 
-  pub places_stay : kept w ≡ kept v → w.left ≡ v.left → w.seen ≤ n → PlacesAndSerials n s q ps (set views j w)
-  places_stay same left seen = places_move (λ k. ap (total (has_place k)) same) (ap (total any_entry) same) (ap (total published_entry) same) (subst (Every (EntryOk n ps)) (sym same) (p.each j v sits)) left seen
+  pub places_stay : kept w ≡ kept v → w.left ≡ v.left → w.seen ≡ v.seen → Every (λ h. h.place < v.seen) w.holds → PlacesAndSerials n s q ps (set views j w)
+  places_stay same left seen hs = places_move (λ k. ap (total (has_place k)) same) (ap (total any_entry) same) (ap (total published_entry) same) (subst (Every (EntryOk n ps)) (sym same) (p.each j v sits)) left seen
+      (subst (Every (λ e. e.place < v.seen)) (sym same) (p.known j v sits).0) hs
 
   -- all places so far are below n
   pub all_published : (qs : List Published) → ((i : ℕ) (x : Published) → get_elem? qs i ≡ some x → x.place < n) → serial_at qs n ≡ length qs
@@ -67,8 +78,8 @@ module _ (n s q : ℕ) (ps : List Published) (views : List View) (j : ℕ) (v w 
   later e ok = record { below = (let h = ok.below in omega arith); serial = ok.serial; published = ok.published; plain = ok.plain }
 
   -- the seat keeps one more entry, which publishes nothing, at the place n
-  pub places_draw : (e : Entry) → e.place ≡ n → e.serial ≡ s → is_publish e.by ≡ false → Adds e v w → 0 < v.left → w.left ≡ v.left - 1 → w.seen ≡ n + 1 → PlacesAndSerials (n + 1) s q ps (set views j w)
-  places_draw e here serial plain adds some_left left seen = record {
+  pub places_draw : (e : Entry) → e.place ≡ n → e.serial ≡ s → is_publish e.by ≡ false → Adds e v w → 0 < v.left → w.left ≡ v.left - 1 → w.seen ≡ n + 1 → Every (λ h. h.place < v.seen) w.holds → PlacesAndSerials (n + 1) s q ps (set views j w)
+  places_draw e here serial plain adds some_left left seen hs = record {
     once = λ k. let f : View → ℕ = λ u. total (has_place k) (kept u) in let t : f w ≡ has_place k e + f v = adds.0 (has_place k) in let a : has_place k e ≡ one_if (n == k) = ap (λ (x : ℕ). one_if (x == k)) here in
         let o = p.once k in let m = once_more k n in let z = total_set f views j v w sits in omega arith;
     all = let t : E any_entry w ≡ 1 + E any_entry v = adds.0 any_entry in let z = total_set (E any_entry) views j v w sits in let a = p.all in omega arith;
@@ -89,6 +100,7 @@ module _ (n s q : ℕ) (ps : List Published) (views : List View) (j : ℕ) (v w 
     left = let z = total_set (λ u. u.left) views j v w sits in let l = p.left in omega arith;
     small = p.small;
     seen = each_move (λ _ u. u.seen ≤ n + 1) views j w (λ i u _ at. let h = p.seen i u at in omega arith) (omega arith);
+    known = each_set (λ _ u. KeepsSeen u) views j w p.known (knows_more n e v w adds here seen (p.seen j v sits) (p.known j v sits).0 hs);
   }
 
 -- the clock's halves don't run over
@@ -142,8 +154,8 @@ module _ (n s q : ℕ) (ps : List Published) (views : List View) (j : ℕ) (v w 
   all_below = all_published n s q ps views j v w sits p ps (λ i x at. (p.rising i x at).0)
 
   -- the seat publishes the next serial at the place n
-  pub places_publish : 0 < v.left → Adds (record { place = n; serial = s + 1; call = t; by = by.Publish; got = false }) v w → w.left ≡ v.left - 1 → w.seen ≡ n + 1 → PlacesAndSerials (n + 1) (s + 1) q ps' (set views j w)
-  places_publish some_left adds left seen = let e : Entry = record { place = n; serial = s + 1; call = t; by = by.Publish; got = false } in let many = p.published.0 in record {
+  pub places_publish : 0 < v.left → Adds (record { place = n; serial = s + 1; call = t; by = by.Publish; got = false }) v w → w.left ≡ v.left - 1 → w.seen ≡ n + 1 → Every (λ h. h.place < v.seen) w.holds → PlacesAndSerials (n + 1) (s + 1) q ps' (set views j w)
+  places_publish some_left adds left seen hs = let e : Entry = record { place = n; serial = s + 1; call = t; by = by.Publish; got = false } in let many = p.published.0 in record {
     once = λ k. let f : View → ℕ = λ u. total (has_place k) (kept u) in let a : f w ≡ has_place k e + f v = adds.0 (has_place k) in
         let o = p.once k in let m = once_more k n in let z = total_set f views j v w sits in omega arith;
     all = let f : View → ℕ = λ u. total any_entry (kept u) in let a : f w ≡ 1 + f v = adds.0 any_entry in let z = total_set f views j v w sits in let b = p.all in omega arith;
@@ -166,4 +178,5 @@ module _ (n s q : ℕ) (ps : List Published) (views : List View) (j : ℕ) (v w 
     left = let z = total_set (λ u. u.left) views j v w sits in let l = p.left in omega arith;
     small = p.small;
     seen = each_move (λ _ u. u.seen ≤ n + 1) views j w (λ i u _ at. let h = p.seen i u at in omega arith) (omega arith);
+    known = each_set (λ _ u. KeepsSeen u) views j w p.known (knows_more n e v w adds refl seen (p.seen j v sits) (p.known j v sits).0 hs);
   }

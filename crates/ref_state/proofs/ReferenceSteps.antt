@@ -143,13 +143,13 @@ module _ (c : Core) (j : ℕ) (v : View) (sits : At c.views j v) (seat : v.role 
   pub loads : (d : ℕ) → MayStep c j v (LoadMode d) → Whole (after_step c j v (LoadMode d))
   loads d ok = let w : View = record v { loaded = loaded_mode d (disk c d).mode } in record {
     puts = s.puts;
-    places = places_stay c.given c.serial c.quotas c.editor.published c.views j v w sits s.places refl refl (s.places.seen j v sits);
+    places = places_stay c.given c.serial c.quotas c.editor.published c.views j v w sits s.places refl refl refl (s.places.known j v sits).1;
     sides = sides_move c.seats c.rows c.serial c.sides c.editor c.views s.sides j v w sits (λ r e. inr e);
     sections = sections_stay c.seats c.serial c.editor.marks c.views j v w sits s.sections seat seat refl refl refl;
     references = references_stay c.seats c.disks c.editor.drains c.views s.puts j v w sits s.references refl refl;
     modes = modes_move c.seats c.serial c.disks c.editor c.views j v w sits s.modes (loads_fit d ok (disk c d).mode refl);
     shown = shown_stay c.seats c.serial c.disks c.editor c.views j v w sits s.shown refl refl;
-    turns = turns_stay c.turns c.views j v w sits refl s.turns;
+    turns = turns_stay c.seats c.turns c.views j v w sits refl refl s.turns;
     executes = executes_stay c.views j v w sits s.executes refl refl;
   }
 

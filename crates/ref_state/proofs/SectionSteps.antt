@@ -15,12 +15,12 @@ use Rattle.ref_state.specs.declared.state.Phase.TheVariants as phase
 use Rattle.ref_state.specs.declared.state.State.{State as Core}
 use Rattle.ref_state.specs.declared.state.Disk.{Disk}
 use Rattle.ref_state.specs.declared.state.Count.{Count}
-use Rattle.ref_state.specs.State.{At, total, own_entry, kept, entries, has_place, any_entry, published_entry, has_got, any_hold, on_disk, holds_on, submit_got, bare_got, execute_of, waiting_hold, done_hold, bare_hold, is_bare, one_if, is_open, read, Reads, Shows, view, drain, disk, mark, IsAwaited, IsLiveOrAwaited, AllPassed, no_disk, no_count}
+use Rattle.ref_state.specs.State.{At, total, own_entry, kept, entries, has_place, any_entry, published_entry, has_got, any_hold, on_disk, holds_on, is_named, got_at, got_by, submit_got, bare_got, execute_of, waiting_hold, done_hold, bare_hold, is_bare, one_if, is_open, read, Reads, Shows, view, drain, disk, mark, IsAwaited, IsLiveOrAwaited, AllPassed, no_disk, no_count}
 use Rattle.ref_state.specs.Steps.{is_least, after_step, MayStep, after_enter, after_place, after_leave, new_entry, after_get, after_put, section_got, has_none, hold_of, may_put, with_view, with_disk, Some_where, MayLoad, looked_at, count_after}
 use Rattle.ref_state.specs.Soundness.{Every, EntryOk, LoadedModeFits, ModeSnapshots}
 use Rattle.ref_state.proofs.Whole.{Whole, Counts}
 use Rattle.ref_state.proofs.Least.{least_there, least_passes}
-use Rattle.ref_state.proofs.Lists.{total_set, total_same, or_set, without_total}
+use Rattle.ref_state.proofs.Lists.{every_without, total_set, total_same, or_set, without_total}
 use Rattle.ref_state.proofs.PlacesKept.{adds_open, places_move, places_stay, places_draw}
 use Rattle.ref_state.proofs.ExecutesKept.{executes_move, executes_stay}
 use Rattle.ref_state.proofs.SectionsKept.{turned, sections_move, sections_stay, sections_look}
@@ -87,22 +87,39 @@ put_waits true q false true e = refl
 put_waits true true false false e = absurd (let h : false ≡ true = e in grind arith)
 put_waits true false false false e = absurd (let h : false ≡ true = e in grind arith)
 
-new_waiting : (k d : ℕ) (z : Section) (es : List Entry) (hs : List Hold) → has_none z ≡ true
-    → total (waiting_hold k) (hold_of d z ++ hs) + total (submit_got k) (own_entry z ++ es) ≡ total (waiting_hold k) hs + total (submit_got k) (own_entry (section_got z) ++ es)
-new_waiting k d Out es hs e = absurd (let h : false ≡ true = e in grind arith)
-new_waiting k d In es hs e = absurd (let h : false ≡ true = e in grind arith)
-new_waiting k d (Placed x) es hs e = let h = waits_new (x.place == k) x.got (is_bare x.call) e in omega arith
+new_waiting : (k : ℕ) (p : ℕ → ℕ → Bool) (d : ℕ) (z : Section) (es : List Entry) (hs : List Hold) → has_none z ≡ true
+    → total (waiting_hold k p) (hold_of d z ++ hs) + total (submit_got k p) (own_entry z ++ es) ≡ total (waiting_hold k p) hs + total (submit_got k p) (own_entry (section_got z) ++ es)
+new_waiting k p d Out es hs e = absurd (let h : false ≡ true = e in grind arith)
+new_waiting k p d In es hs e = absurd (let h : false ≡ true = e in grind arith)
+new_waiting k p d (Placed x) es hs e = let h = waits_new ((x.place == k) && is_named p x.call) x.got (is_bare x.call) e in omega arith
 
-new_done : (k d : ℕ) (z : Section) (hs : List Hold) → total (done_hold k) (hold_of d z ++ hs) ≡ total (done_hold k) hs
-new_done k d Out hs = refl
-new_done k d In hs = refl
-new_done k d (Placed x) hs = let h = none_done (x.place == k) (is_bare x.call) in omega arith
+new_done : (k : ℕ) (p : ℕ → ℕ → Bool) (d : ℕ) (z : Section) (hs : List Hold) → total (done_hold k p) (hold_of d z ++ hs) ≡ total (done_hold k p) hs
+new_done k p d Out hs = refl
+new_done k p d In hs = refl
+new_done k p d (Placed x) hs = let h = none_done ((x.place == k) && is_named p x.call) (is_bare x.call) in omega arith
 
-new_bare : (k d : ℕ) (z : Section) (es : List Entry) (hs : List Hold) → has_none z ≡ true
-    → total (bare_hold k) (hold_of d z ++ hs) + total (bare_got k) (own_entry z ++ es) ≡ total (bare_hold k) hs + total (bare_got k) (own_entry (section_got z) ++ es)
-new_bare k d Out es hs e = absurd (let h : false ≡ true = e in grind arith)
-new_bare k d In es hs e = absurd (let h : false ≡ true = e in grind arith)
-new_bare k d (Placed x) es hs e = let h = bare_new (x.place == k) x.got (is_bare x.call) e in omega arith
+new_bare : (k : ℕ) (p : ℕ → ℕ → Bool) (d : ℕ) (z : Section) (es : List Entry) (hs : List Hold) → has_none z ≡ true
+    → total (bare_hold k p) (hold_of d z ++ hs) + total (bare_got k p) (own_entry z ++ es) ≡ total (bare_hold k p) hs + total (bare_got k p) (own_entry (section_got z) ++ es)
+new_bare k p d Out es hs e = absurd (let h : false ≡ true = e in grind arith)
+new_bare k p d In es hs e = absurd (let h : false ≡ true = e in grind arith)
+new_bare k p d (Placed x) es hs e = let h = bare_new ((x.place == k) && is_named p x.call) x.got (is_bare x.call) e in omega arith
+
+one_new : (q g : Bool) → not g ≡ true → one_if q + one_if (q && g) ≡ one_if (q && true)
+one_new q true e = absurd (let h : false ≡ true = e in grind arith)
+one_new true false e = refl
+one_new false false e = refl
+
+new_of_one : (k : ℕ) (p : Tag → Bool) (d : ℕ) (z : Section) (es : List Entry) (hs : List Hold) → has_none z ≡ true
+    → total (got_by k p) (hold_of d z ++ hs) + total (got_at k p) (own_entry z ++ es) ≡ total (got_by k p) hs + total (got_at k p) (own_entry (section_got z) ++ es)
+new_of_one k p d Out es hs e = absurd (let h : false ≡ true = e in grind arith)
+new_of_one k p d In es hs e = absurd (let h : false ≡ true = e in grind arith)
+new_of_one k p d (Placed x) es hs e = let h = one_new ((x.place == k) && p x.call) x.got e in omega arith
+
+-- the hold that a section gets has the section's place
+got_seen : (P : ℕ → Type 0) (d : ℕ) (z : Section) (es : List Entry) (hs : List Hold) → Every (λ e. P e.place) (own_entry z ++ es) → Every (λ h. P h.place) hs → Every (λ h. P h.place) (hold_of d z ++ hs)
+got_seen P d Out es hs a b = b
+got_seen P d In es hs a b = b
+got_seen P d (Placed x) es hs a b = (a.0, b)
 
 -- the disk of a hold that may be put
 pub put_disk : (d : ℕ) (h : Hold) → may_put d h ≡ true → h.disk ≡ d
@@ -124,14 +141,14 @@ module _ (c : Core) (j : ℕ) (v : View) (sits : At c.views j v) (seat : v.role 
   pub enters : MayStep c j v EnterSection → Whole (after_step c j v EnterSection)
   enters ok = record {
     puts = s.puts;
-    places = places_stay c.given c.serial c.quotas c.editor.published c.views j v (after_enter v) sits s.places (ap (λ z. own_entry z ++ v.entries) (sym ok)) refl (s.places.seen j v sits);
+    places = places_stay c.given c.serial c.quotas c.editor.published c.views j v (after_enter v) sits s.places (ap (λ z. own_entry z ++ v.entries) (sym ok)) refl refl (s.places.known j v sits).1;
     sides = sides_move c.seats c.rows c.serial c.sides c.editor c.views s.sides j v (after_enter v) sits (λ r e. absurd (let h : None ≡ Some r = e in grind arith));
     sections = sections_move c.seats c.serial c.editor.marks c.views j v (after_enter v) sits s.sections seat seat
         (turned v.word ∙ ap not (s.sections.odd j v sits ∙ ap is_open ok)) (λ r e. absurd (let h : None ≡ Some r = e in grind arith));
     references = references_stay c.seats c.disks c.editor.drains c.views s.puts j v (after_enter v) sits s.references (ap (λ z. total has_got (own_entry z ++ v.entries)) (sym ok)) refl;
     modes = modes_blank c.seats c.serial c.disks c.editor c.views j v (after_enter v) sits s.modes (loaded_closed c.editor j v v.loaded (s.modes.loaded j v sits) (ap is_open ok));
     shown = shown_blank c.seats c.serial c.disks c.editor c.views j v (after_enter v) sits s.shown refl;
-    turns = turns_stay c.turns c.views j v (after_enter v) sits refl s.turns;
+    turns = turns_stay c.seats c.turns c.views j v (after_enter v) sits refl refl s.turns;
     executes = executes_stay c.views j v (after_enter v) sits s.executes (ap (λ z. own_entry z ++ v.entries) (sym ok)) refl;
   }
 
@@ -140,18 +157,19 @@ module _ (c : Core) (j : ℕ) (v : View) (sits : At c.views j v) (seat : v.role 
   pub draws : (t : Tag) → MayStep c j v (DrawPlace t) → Whole (after_step c j v (DrawPlace t))
   draws t ok = record {
     puts = s.puts;
-    places = places_draw c.given c.serial c.quotas c.editor.published c.views j v (after_place c t v) sits s.places (new_entry c t by.Draw) refl refl refl (adds_open (new_entry c t by.Draw) v (after_place c t v) (ap (λ z. new_entry c t by.Draw ∷ (own_entry z ++ v.entries)) (sym ok.0))) ok.1 refl refl;
+    places = places_draw c.given c.serial c.quotas c.editor.published c.views j v (after_place c t v) sits s.places (new_entry c t by.Draw) refl refl refl (adds_open (new_entry c t by.Draw) v (after_place c t v) (ap (λ z. new_entry c t by.Draw ∷ (own_entry z ++ v.entries)) (sym ok.0))) ok.1 refl refl (s.places.known j v sits).1;
     sides = sides_move c.seats c.rows c.serial c.sides c.editor c.views s.sides j v (after_place c t v) sits (λ r e. inl (sym (some_is e)));
     sections = sections_move c.seats c.serial c.editor.marks c.views j v (after_place c t v) sits s.sections seat seat (s.sections.odd j v sits ∙ ap is_open ok.0) (λ r e last. absurd (let h = some_is e in omega arith));
     references = references_stay c.seats c.disks c.editor.drains c.views s.puts j v (after_place c t v) sits s.references (let a = ap (λ z. total has_got (own_entry z ++ v.entries)) ok.0 in omega arith) refl;
     modes = modes_move c.seats c.serial c.disks c.editor c.views j v (after_place c t v) sits s.modes
         (loaded_stays c.editor j v (after_place c t v) v.loaded refl (sym (ap is_open ok.0)) (λ d. in_place d) (s.modes.loaded j v sits));
     shown = shown_move c.seats c.serial c.disks c.editor c.views j v (after_place c t v) sits s.shown (λ d r e shows. inl (s.shown.last d (subst (λ (z : ℕ). Shows c.editor z d) (sym (some_is e)) shows)));
-    turns = turns_stay c.turns c.views j v (after_place c t v) sits refl s.turns;
+    turns = turns_stay c.seats c.turns c.views j v (after_place c t v) sits refl refl s.turns;
     executes = executes_move c.views j v (after_place c t v) sits s.executes
-        (λ k. let a = ap (λ z. total (execute_of k) (own_entry z ++ v.entries)) ok.0 in let b = ap (λ z. total (submit_got k) (own_entry z ++ v.entries)) ok.0 in let z = none_got k in omega arith)
-        (λ k. let a = ap (λ z. total (execute_of k) (own_entry z ++ v.entries)) ok.0 in omega arith)
-        (λ k. let a = ap (λ z. total (bare_got k) (own_entry z ++ v.entries)) ok.0 in let z = no_bare_got k in omega arith);
+        (λ k p. let a = ap (λ z. total (execute_of k p) (own_entry z ++ v.entries)) ok.0 in let b = ap (λ z. total (submit_got k p) (own_entry z ++ v.entries)) ok.0 in let z = none_got k p in omega arith)
+        (λ k p. let a = ap (λ z. total (execute_of k p) (own_entry z ++ v.entries)) ok.0 in omega arith)
+        (λ k p. let a = ap (λ z. total (bare_got k p) (own_entry z ++ v.entries)) ok.0 in let z = no_bare_got k p in omega arith)
+        (λ k p. let a = ap (λ z. total (got_at k p) (own_entry z ++ v.entries)) ok.0 in omega arith);
   }
     where
       some_is : {a b : ℕ} → Some a ≡ Some b → a ≡ b
@@ -160,15 +178,15 @@ module _ (c : Core) (j : ℕ) (v : View) (sits : At c.views j v) (seat : v.role 
       in_place : (d : ℕ) → MayLoad c.editor v d → MayLoad c.editor (after_place c t v) d
       in_place d may = ⊎_elim (λ (m : (r : ℕ) × Reads v r × Shows c.editor r d). absurd (let h : None ≡ Some m.0 = sym (ap read ok.0) ∙ m.1 in grind arith)) (λ m. inr m) may
 
-      none_got : (k : ℕ) → submit_got k (new_entry c t by.Draw) ≡ 0
-      none_got k = none_of (c.given == k)
+      none_got : (k : ℕ) (p : ℕ → ℕ → Bool) → submit_got k p (new_entry c t by.Draw) ≡ 0
+      none_got k p = none_of ((c.given == k) && is_named p t)
         where
           none_of : (z : Bool) → one_if (z && (false && not (is_bare t))) ≡ 0
           none_of true = refl
           none_of false = refl
 
-      no_bare_got : (k : ℕ) → bare_got k (new_entry c t by.Draw) ≡ 0
-      no_bare_got k = none_of (c.given == k)
+      no_bare_got : (k : ℕ) (p : ℕ → ℕ → Bool) → bare_got k p (new_entry c t by.Draw) ≡ 0
+      no_bare_got k p = none_of ((c.given == k) && is_named p t)
         where
           none_of : (z : Bool) → one_if (z && (false && is_bare t)) ≡ 0
           none_of true = refl
@@ -179,13 +197,13 @@ module _ (c : Core) (j : ℕ) (v : View) (sits : At c.views j v) (seat : v.role 
   pub leaves : MayStep c j v LeaveSection → Whole (after_step c j v LeaveSection)
   leaves ok = record {
     puts = s.puts;
-    places = places_stay c.given c.serial c.quotas c.editor.published c.views j v (after_leave v) sits s.places refl refl (s.places.seen j v sits);
+    places = places_stay c.given c.serial c.quotas c.editor.published c.views j v (after_leave v) sits s.places refl refl refl (s.places.known j v sits).1;
     sides = sides_move c.seats c.rows c.serial c.sides c.editor c.views s.sides j v (after_leave v) sits (λ r e. absurd (let h : None ≡ Some r = e in grind arith));
     sections = sections_move c.seats c.serial c.editor.marks c.views j v (after_leave v) sits s.sections seat seat (turned v.word ∙ ap not (s.sections.odd j v sits ∙ ok.0)) (λ r e. absurd (let h : None ≡ Some r = e in grind arith));
     references = references_stay c.seats c.disks c.editor.drains c.views s.puts j v (after_leave v) sits s.references refl refl;
     modes = modes_blank c.seats c.serial c.disks c.editor c.views j v (after_leave v) sits s.modes ok.1;
     shown = shown_blank c.seats c.serial c.disks c.editor c.views j v (after_leave v) sits s.shown refl;
-    turns = turns_stay c.turns c.views j v (after_leave v) sits refl s.turns;
+    turns = turns_stay c.seats c.turns c.views j v (after_leave v) sits refl refl s.turns;
     executes = executes_stay c.views j v (after_leave v) sits s.executes refl refl;
   }
 
@@ -259,7 +277,8 @@ module _ (c : Core) (j : ℕ) (v : View) (sits : At c.views j v) (seat : v.role 
     puts = s.puts;
     places = places_move c.given c.serial c.quotas c.editor.published c.views j v w sits s.places (λ k. got_total (has_place k) (λ e. refl) v.section v.entries) (got_total any_entry (λ e. refl) v.section v.entries)
         (got_total published_entry (λ e. refl) v.section v.entries) (got_ok (EntryOk c.given c.editor.published) (λ e k. record { below = k.below; serial = k.serial; published = k.published; plain = k.plain }) v.section v.entries (s.places.each j v sits))
-        refl (s.places.seen j v sits);
+        refl refl (got_ok (λ e. e.place < v.seen) (λ e h. h) v.section v.entries (s.places.known j v sits).0)
+        (got_seen (λ (x : ℕ). x < v.seen) d v.section v.entries v.holds (s.places.known j v sits).0 (s.places.known j v sits).1);
     sides = sides_move c.seats c.rows c.serial c.sides c.editor c.views s.sides j v w sits (λ r e. inr (sym (got_reads v.section) ∙ e));
     sections = sections_stay c.seats c.serial c.editor.marks c.views j v w sits s.sections seat seat refl (got_open v.section) (got_reads v.section);
     references = references_move c.seats c.disks c.editor.drains c.views s.puts j v w sits s.references d s.puts k
@@ -270,11 +289,12 @@ module _ (c : Core) (j : ℕ) (v : View) (sits : At c.views j v) (seat : v.role 
         (counts was));
     modes = modes;
     shown = shown_stay c.seats c.serial c.disks c.editor c.views j v w sits s.shown refl (got_reads v.section);
-    turns = turns_stay c.turns c.views j v w sits refl s.turns;
+    turns = turns_stay c.seats c.turns c.views j v w sits refl refl s.turns;
     executes = executes_move c.views j v w sits s.executes
-        (λ k. let a = new_waiting k d v.section v.entries v.holds none in let b = got_total (execute_of k) (λ e. refl) v.section v.entries in omega arith)
-        (λ k. let a = new_done k d v.section v.holds in let b = got_total (execute_of k) (λ e. refl) v.section v.entries in omega arith)
-        (λ k. let a = new_bare k d v.section v.entries v.holds none in omega arith);
+        (λ k p. let a = new_waiting k p d v.section v.entries v.holds none in let b = got_total (execute_of k p) (λ e. refl) v.section v.entries in omega arith)
+        (λ k p. let a = new_done k p d v.section v.holds in let b = got_total (execute_of k p) (λ e. refl) v.section v.entries in omega arith)
+        (λ k p. let a = new_bare k p d v.section v.entries v.holds none in omega arith)
+        (λ k p. let a = new_of_one k p d v.section v.entries v.holds none in omega arith);
   }
 
   pub ups_own : (d : ℕ) → MayStep c j v (AddOwn d true) → Whole (after_step c j v (AddOwn d true))
@@ -290,7 +310,7 @@ module _ (c : Core) (j : ℕ) (v : View) (sits : At c.views j v) (seat : v.role 
       → ModeSnapshots c.seats (set c.disks d k) c.editor (set c.views j (after_put d v)) → Whole (with_view (with_disk c d k) j (after_put d v))
   downs d k m counts modes = let w : View = after_put d v in record {
     puts = s.puts + 1;
-    places = places_stay c.given c.serial c.quotas c.editor.published c.views j v w sits s.places refl refl (s.places.seen j v sits);
+    places = places_stay c.given c.serial c.quotas c.editor.published c.views j v w sits s.places refl refl refl (every_without (λ h. h.place < v.seen) (is_least (may_put d) v.holds) v.holds (s.places.known j v sits).1).0;
     sides = sides_move c.seats c.rows c.serial c.sides c.editor c.views s.sides j v w sits (λ r e. inr e);
     sections = sections_stay c.seats c.serial c.editor.marks c.views j v w sits s.sections seat seat refl refl refl;
     references = references_move c.seats c.disks c.editor.drains c.views s.puts j v w sits s.references d (s.puts + 1) k
@@ -302,12 +322,13 @@ module _ (c : Core) (j : ℕ) (v : View) (sits : At c.views j v) (seat : v.role 
         (subst (λ (z : ℕ). Counts c.seats (entries has_got c.views) s.puts z (disk c d) (drain c.editor d)) (sym on) was)));
     modes = modes;
     shown = shown_stay c.seats c.serial c.disks c.editor c.views j v w sits s.shown refl refl;
-    turns = turns_stay c.turns c.views j v w sits refl s.turns;
+    turns = turns_stay c.seats c.turns c.views j v w sits refl refl s.turns;
     executes = executes_move c.views j v w sits s.executes
-        (λ k. let h = without_total (is_least (may_put d) v.holds) (waiting_hold k) v.holds m.0 m.1 in
-        let z = put_waits (m.0.place == k) (m.0.disk == d) (is_bare m.0.call) m.0.executed (least_passes (may_put d) v.holds m.0 m.1) in omega arith)
-        (λ k. let h = without_total (is_least (may_put d) v.holds) (done_hold k) v.holds m.0 m.1 in omega arith)
-        (λ k. let h = without_total (is_least (may_put d) v.holds) (bare_hold k) v.holds m.0 m.1 in omega arith);
+        (λ k p. let h = without_total (is_least (may_put d) v.holds) (waiting_hold k p) v.holds m.0 m.1 in
+        let z = put_waits ((m.0.place == k) && is_named p m.0.call) (m.0.disk == d) (is_bare m.0.call) m.0.executed (least_passes (may_put d) v.holds m.0 m.1) in omega arith)
+        (λ k p. let h = without_total (is_least (may_put d) v.holds) (done_hold k p) v.holds m.0 m.1 in omega arith)
+        (λ k p. let h = without_total (is_least (may_put d) v.holds) (bare_hold k p) v.holds m.0 m.1 in omega arith)
+        (λ k p. let h = without_total (is_least (may_put d) v.holds) (got_by k p) v.holds m.0 m.1 in omega arith);
   }
 
   pub downs_own : (d : ℕ) → MayStep c j v (AddOwn d false) → Whole (after_step c j v (AddOwn d false))

@@ -33,6 +33,7 @@ module _ (n s : ℕ) (ms : List Mark) (views : List View) (j : ℕ) (v w : View)
   pub sections_move : v.role ≡ Seat → w.role ≡ Seat → is_odd w.word ≡ is_open w.section → ((r : ℕ) → Reads w r → r + 1 ≡ s → IsAwaited (mark ms j) w.word) → GracePeriod n s ms (set views j w)
   sections_move was is odd old = record {
     many = (let l = length-set views j w in let m = x.many in omega arith);
+    marked = x.marked;
     seats_first = each_set (λ i u. (u.role ≡ Seat → i < n) × (u.role ≢ Seat → u.section ≡ Out)) views j w x.seats_first ((λ _. (x.seats_first j v sits).0 was), λ other. absurd (other is));
     odd = each_set (λ _ u. is_odd u.word ≡ is_open u.section) views j w x.odd odd;
     old = each_set (λ i u. (r : ℕ) → Reads u r → r + 1 ≡ s → IsAwaited (mark ms i) u.word) views j w x.old old;
@@ -50,6 +51,7 @@ reads_open (Placed z) r e = refl
 pub sections_look : (n s : ℕ) (ms : List Mark) (views : List View) (o : ℕ) → GracePeriod n s ms views → GracePeriod n s (at_mark o (view views o).word ms) views
 sections_look n s ms views o x = record {
   many = x.many;
+  marked = length-set ms o (looked (mark ms o) (view views o).word) ∙ x.marked;
   seats_first = x.seats_first;
   odd = x.odd;
   old = λ j u at r e last. waits_at ms o (view views o).word j u.word (λ same. ap (λ (z : View). z.word) (ap (λ i. view views i) (sym same) ∙ or_at views j u no_view at)) (x.odd j u at ∙ reads_open u.section r e) (x.old j u at r e last);

@@ -110,11 +110,18 @@ module _ (n s : ℕ) (disks : List Disk) (k : Editor) (views : List View) (o : �
       same true = refl
       same false = refl
 
+  marks_kept : (d : ℕ) → length (drain (looked_at o w k) d).marks ≡ length (drain k d).marks
+  marks_kept d = ap (λ (b : Drain). length b.marks) (drain_looked o w k.drains d) ∙ as_long (is_killed (drain k d).phase)
+    where
+      as_long : (z : Bool) → length (Rattle.std.proofs.Common.cond z (record (drain k d) { marks = at_mark o w (drain k d).marks }) (drain k d)).marks ≡ length (drain k d).marks
+      as_long true = Rattle.std.proofs.Common.length-set (drain k d).marks o (looked (mark (drain k d).marks o) w)
+      as_long false = refl
+
   pub modes_look : Each views (λ _ u. is_odd u.word ≡ is_open u.section) → ModeSnapshots n disks k views → ModeSnapshots n disks (looked_at o w k) views
   modes_look odd x = record {
     mode = λ d. ((λ e. phase_kept d ∙ (x.mode d).0 e), λ e. (x.mode d).1 (sym (phase_kept d) ∙ e));
     loaded = λ j u at. fits j u u.loaded at (odd j u at) (x.loaded j u at);
     looked = λ d killed i c e. let h = x.looked d (sym (phase_kept d) ∙ killed) i c (sym (ap (λ (l : List (Option Count)). get_or l i None) (looked_kept d)) ∙ e) in
         (subst (λ (b : Drain). AllPassed n b.marks) (sym (drain_looked o w k.drains d)) (all_passed_looked n o w (drain k d) h.0), h.1);
-    wide = λ d killed. ap length (looked_kept d) ∙ x.wide d (sym (phase_kept d) ∙ killed);
+    wide = λ d killed. let h = x.wide d (sym (phase_kept d) ∙ killed) in (ap length (looked_kept d) ∙ h.0, marks_kept d ∙ h.1);
   }

@@ -1,5 +1,6 @@
 -- store_row and publish keep soundness.
 use Rattle.std.proofs.Common.{◌≡◌, ◌≢◌, ◌⊎◌, ℕ, zero, suc, ◌+◌, ◌-◌, ◌%◌, ◌<◌, ◌≤◌, List, [], ◌∷◌, ◌++◌, length, get_or, set, replicate, sym, refl, ap, ◌∙◌, subst, inl, inr, ⊎_elim, arith, Some, None, length-set, length-append, get_or-set_same, get_or-set_other}
+use lib.ListN.{length-replicate}
 use Rattle.ref_state.specs.declared.kinds.Tag.{Tag}
 use Rattle.ref_state.specs.declared.kinds.Kind.TheVariants.{StoreRow, Publish}
 use Rattle.ref_state.specs.declared.state.By.TheVariants as by
@@ -102,7 +103,7 @@ module _ (c : Core) (j : ℕ) (v : View) (sits : At c.views j v) (seat : v.role 
   pub publishes : (t : Tag) → MayStep c j v (Publish t) → Whole (after_step c j v (Publish t))
   publishes t ok = let e : Entry = record (new_entry c t by.Publish) { serial = c.serial + 1 } in let w : View = after_finish c e v in let many = s.sides.confs in record {
     puts = s.puts;
-    places = places_publish c.given c.serial c.quotas c.editor.published c.views j v w sits s.places t ok.1 (adds_finished c e v) refl refl;
+    places = places_publish c.given c.serial c.quotas c.editor.published c.views j v w sits s.places t ok.1 (adds_finished c e v) refl refl (s.places.known j v sits).1;
     sides = record {
       two = s.sides.two;
       confs = let l = length-append c.editor.confs (side c (c.serial + 1) ∷ []) in omega arith;
@@ -114,6 +115,7 @@ module _ (c : Core) (j : ℕ) (v : View) (sits : At c.views j v) (seat : v.role 
     };
     sections = record {
       many = (let l = length-set c.views j w in let m = s.sections.many in omega arith);
+      marked = length-replicate c.seats Unseen;
       seats_first = each_set (λ i u. (u.role ≡ Seat → i < c.seats) × (u.role ≢ Seat → u.section ≡ Out)) c.views j w s.sections.seats_first (s.sections.seats_first j v sits);
       odd = each_set (λ _ u. is_odd u.word ≡ is_open u.section) c.views j w s.sections.odd (s.sections.odd j v sits);
       old = λ i u at r e last. fresh_waits c.seats i u.word;
@@ -130,8 +132,8 @@ module _ (c : Core) (j : ℕ) (v : View) (sits : At c.views j v) (seat : v.role 
       sections = λ d. each_set (λ i u. (r : ℕ) → Reads u r → Shows (after_step c j v (Publish t)).editor r d → IsLiveOrAwaited (drain c.editor d) i u.word) c.views j w
           (λ i u at r e shows. s.shown.sections d i u at r e (was i u r d at e shows)) (λ r e shows. s.shown.sections d j v sits r e (was j v r d sits e shows));
     };
-    turns = turns_stay c.turns c.views j v w sits refl s.turns;
-    executes = executes_plain c.views j v w sits s.executes e (adds_finished c e v) refl (λ k. refl) refl;
+    turns = turns_stay c.seats c.turns c.views j v w sits refl refl s.turns;
+    executes = executes_plain c.views j v w sits s.executes e (adds_finished c e v) refl (λ k p. refl) refl;
   }
     where
       now : (i : ℕ) (u : View) (r : ℕ) → At c.views i u → Reads u r → r ≡ c.serial

@@ -1,5 +1,5 @@
 -- The two sides and the turns are kept where one seat's view changes.
-use Rattle.std.proofs.Common.{◌≡◌, ◌⊎◌, ℕ, ◌+◌, ◌-◌, List, [], length, get_or, set, sym, ap, ◌∙◌, subst, inl, ⊎_elim}
+use Rattle.std.proofs.Common.{◌≡◌, ◌<◌, ◌⊎◌, ℕ, ◌+◌, ◌-◌, List, [], length, get_or, set, sym, ap, ◌∙◌, subst, inl, ⊎_elim}
 use mathlib.Core.Option.{some}
 use lib.ListN.{get_elem?}
 use Rattle.ref_state.specs.declared.state.View.{View}
@@ -32,8 +32,9 @@ module _ (n rows serial : ℕ) (sides : List (List ℕ)) (k : Editor) (views : L
     reads = x.reads;
   }
 
-pub turns_stay : (turns : List ℕ) (views : List View) (j : ℕ) (v w : View) → At views j v → w.turns ≡ v.turns → TurnsOwned turns views → TurnsOwned turns (set views j w)
-turns_stay turns views j v w sits same x = record {
+pub turns_stay : (n : ℕ) (turns : List ℕ) (views : List View) (j : ℕ) (v w : View) → At views j v → w.number ≡ v.number → w.turns ≡ v.turns → TurnsOwned n turns views → TurnsOwned n turns (set views j w)
+turns_stay n turns views j v w sits number same x = record {
+  numbered = each_set (λ i u. (i < n → u.number ≡ i) × (u.number < n)) views j w x.numbered (subst (λ (z : ℕ). (j < n → z ≡ j) × (z < n)) (sym number) (x.numbered j v sits));
   holders = λ s near. total_same (λ u. total (of_slot s) u.turns) views j v w sits (ap (total (of_slot s)) same) ∙ x.holders s near;
   owner = each_set (λ i u. Every (λ t. get_elem? turns t.slot ≡ some (i + 1)) u.turns) views j w x.owner (subst (Every (λ t. get_elem? turns t.slot ≡ some (j + 1))) (sym same) (x.owner j v sits));
 }

@@ -12,7 +12,7 @@ use Rattle.ref_state.specs.declared.state.Turn.{Turn}
 use Rattle.ref_state.specs.declared.state.Role.TheVariants.{Seat}
 use Rattle.ref_state.specs.declared.state.View.{View}
 use Rattle.ref_state.specs.declared.state.State.{State as Core}
-use Rattle.ref_state.specs.State.{At, total, own_entry, kept, one_if, is_bare, is_publish, has_got, submit_got, bare_got, execute_of, any_hold, on_disk, waiting_hold, done_hold, bare_hold, of_slot, is_open, read, Reads, Shows}
+use Rattle.ref_state.specs.State.{At, total, own_entry, kept, one_if, is_bare, is_publish, has_got, is_named, got_at, got_by, submit_got, bare_got, execute_of, any_hold, on_disk, waiting_hold, done_hold, bare_hold, of_slot, is_open, read, Reads, Shows}
 use Rattle.ref_state.specs.Steps.{is_least, least, after_step, MayStep, new_entry, after_finish, is_on, is_slot, is_home_slot, is_held, place_of, after_execute, with_view, first, without, change, Some_where, listed}
 use Rattle.ref_state.specs.Soundness.{Every, LoadedModeFits, TurnsOwned}
 use Rattle.ref_state.proofs.Whole.{Whole}
@@ -38,16 +38,18 @@ not_slot : (s : ℕ) (t : Turn) → of_slot s t ≡ 0 → t.slot ≢ s
 not_slot s t e h = let a = of_slot_here s t h in omega arith
 
 -- a held hold waits, and is of its disk
-held_is : (t : Tag) (d : ℕ) (h : Hold) → is_held t d h ≡ true → (h.disk ≡ d) × (not (is_bare h.call) ≡ true) × (not h.executed ≡ true)
-held_is t d h e = by_case (h.disk == d) (h.call.caller == t.caller) (h.call.number == t.number) (not (is_bare h.call)) (not h.executed) e (eqb-true h.disk d)
+held_is : (t : Tag) (d : ℕ) (h : Hold) → is_held t d h ≡ true
+    → (h.disk ≡ d) × (not (is_bare h.call) ≡ true) × (not h.executed ≡ true) × ((h.call.caller ≡ t.caller) × (h.call.number ≡ t.number))
+held_is t d h e = by_case (h.disk == d) (h.call.caller == t.caller) (h.call.number == t.number) (not (is_bare h.call)) (not h.executed) e (eqb-true h.disk d) (eqb-true h.call.caller t.caller) (eqb-true h.call.number t.number)
   where
-    by_case : (a b c x y : Bool) → (a && (b && (c && (x && y)))) ≡ true → (a ≡ true → h.disk ≡ d) → (h.disk ≡ d) × (x ≡ true) × (y ≡ true)
-    by_case true true true true true e f = (f refl, refl, refl)
-    by_case false b c x y e f = absurd (let h : false ≡ true = e in grind arith)
-    by_case true false c x y e f = absurd (let h : false ≡ true = e in grind arith)
-    by_case true true false x y e f = absurd (let h : false ≡ true = e in grind arith)
-    by_case true true true false y e f = absurd (let h : false ≡ true = e in grind arith)
-    by_case true true true true false e f = absurd (let h : false ≡ true = e in grind arith)
+    by_case : (a b c x y : Bool) → (a && (b && (c && (x && y)))) ≡ true → (a ≡ true → h.disk ≡ d) → (b ≡ true → h.call.caller ≡ t.caller) → (c ≡ true → h.call.number ≡ t.number)
+        → (h.disk ≡ d) × (x ≡ true) × (y ≡ true) × ((h.call.caller ≡ t.caller) × (h.call.number ≡ t.number))
+    by_case true true true true true e f g i = (f refl, refl, refl, (g refl, i refl))
+    by_case false b c x y e f g i = absurd (let h : false ≡ true = e in grind arith)
+    by_case true false c x y e f g i = absurd (let h : false ≡ true = e in grind arith)
+    by_case true true false x y e f g i = absurd (let h : false ≡ true = e in grind arith)
+    by_case true true true false y e f g i = absurd (let h : false ≡ true = e in grind arith)
+    by_case true true true true false e f g i = absurd (let h : false ≡ true = e in grind arith)
 
 abbrev now_done : Hold → Hold
 now_done h = record h { executed = true }
@@ -75,21 +77,21 @@ module _ (c : Core) (j : ℕ) (v : View) (sits : At c.views j v) (seat : v.role 
   -- ## place_done
 
   -- an entry that publishes nothing, executes nothing and got no hold
-  finishes : (e : Entry) → e.place ≡ c.given → e.serial ≡ c.serial → is_publish e.by ≡ false → e.got ≡ false → ((k : ℕ) → execute_of k e ≡ 0) → 0 < v.left → Whole (record (with_view c j (after_finish c e v)) { given = c.given + 1 })
+  finishes : (e : Entry) → e.place ≡ c.given → e.serial ≡ c.serial → is_publish e.by ≡ false → e.got ≡ false → ((k : ℕ) (p : ℕ → ℕ → Bool) → execute_of k p e ≡ 0) → 0 < v.left → Whole (record (with_view c j (after_finish c e v)) { given = c.given + 1 })
   finishes e here serial plain none no_execute some_left = let w : View = after_finish c e v in record {
     puts = s.puts;
-    places = places_draw c.given c.serial c.quotas c.editor.published c.views j v w sits s.places e here serial plain (adds_finished c e v) some_left refl refl;
+    places = places_draw c.given c.serial c.quotas c.editor.published c.views j v w sits s.places e here serial plain (adds_finished c e v) some_left refl refl (s.places.known j v sits).1;
     sides = sides_move c.seats c.rows c.serial c.sides c.editor c.views s.sides j v w sits (λ r e. inr e);
     sections = sections_stay c.seats c.serial c.editor.marks c.views j v w sits s.sections seat seat refl refl refl;
     references = references_stay c.seats c.disks c.editor.drains c.views s.puts j v w sits s.references (let a = (adds_finished c e v).0 has_got in let b = ap one_if none in omega arith) refl;
     modes = modes_move c.seats c.serial c.disks c.editor c.views j v w sits s.modes (loaded_stays c.editor j v w v.loaded refl refl (λ d m. m) (s.modes.loaded j v sits));
     shown = shown_stay c.seats c.serial c.disks c.editor c.views j v w sits s.shown refl refl;
-    turns = turns_stay c.turns c.views j v w sits refl s.turns;
+    turns = turns_stay c.seats c.turns c.views j v w sits refl refl s.turns;
     executes = executes_plain c.views j v w sits s.executes e (adds_finished c e v) none no_execute refl;
   }
 
   pub dones : (d : ℕ) (t : Tag) → MayStep c j v (PlaceDone d t) → Whole (after_step c j v (PlaceDone d t))
-  dones d t ok = let e : Entry = new_entry c t by.Done in let w : View = after_finish c e v in let c1 : Core = record (with_view c j w) { given = c.given + 1 } in let s1 : Whole c1 = finishes e refl refl refl refl (λ k. refl) ok.2 in
+  dones d t ok = let e : Entry = new_entry c t by.Done in let w : View = after_finish c e v in let c1 : Core = record (with_view c j w) { given = c.given + 1 } in let s1 : Whole c1 = finishes e refl refl refl refl (λ k p. refl) ok.2 in
       passc.marks_done c1 j w (sits_now w) seat s1 d ok.1
     where
       sits_now : (w : View) → At (set c.views j w) j w
@@ -104,10 +106,10 @@ module _ (c : Core) (j : ℕ) (v : View) (sits : At c.views j v) (seat : v.role 
 
   -- what a seat's turns change
   turns_alone : (w : View) (ts : List ℕ) → w.role ≡ v.role → w.word ≡ v.word → w.section ≡ v.section → w.loaded ≡ v.loaded → w.holds ≡ v.holds → w.left ≡ v.left → w.seen ≡ v.seen → w.entries ≡ v.entries
-      → TurnsOwned ts (set c.views j w) → Whole (record (with_view c j w) { turns = ts })
+      → TurnsOwned c.seats ts (set c.views j w) → Whole (record (with_view c j w) { turns = ts })
   turns_alone w ts role word section mode hs left seen es turns = let same : kept w ≡ kept v = λ i. own_entry (section i) ++ es i in record {
     puts = s.puts;
-    places = places_stay c.given c.serial c.quotas c.editor.published c.views j v w sits s.places same left (subst (λ (n : ℕ). n ≤ c.given) (sym seen) (s.places.seen j v sits));
+    places = places_stay c.given c.serial c.quotas c.editor.published c.views j v w sits s.places same left seen (subst (Every (λ h. h.place < v.seen)) (sym hs) (s.places.known j v sits).1);
     sides = sides_move c.seats c.rows c.serial c.sides c.editor c.views s.sides j v w sits (λ r e. inr (sym (ap read section) ∙ e));
     sections = sections_stay c.seats c.serial c.editor.marks c.views j v w sits s.sections seat (role ∙ seat) word (ap is_open section) (ap read section);
     references = references_stay c.seats c.disks c.editor.drains c.views s.puts j v w sits s.references (ap (total has_got) same) hs;
@@ -121,6 +123,7 @@ module _ (c : Core) (j : ℕ) (v : View) (sits : At c.views j v) (seat : v.role 
   -- the extent of a turn goes out or comes home
   moves : (n : ℕ) (b : Bool) → Whole (with_view c j (record v { turns = change (is_slot n) (λ t. record t { out = b }) v.turns }))
   moves n b = let w : View = record v { turns = change (is_slot n) (λ t. record t { out = b }) v.turns } in turns_alone w c.turns refl refl refl refl refl refl refl refl record {
+    numbered = each_set (λ i u. (i < c.seats → u.number ≡ i) × (u.number < c.seats)) c.views j w s.turns.numbered (s.turns.numbered j v sits);
     holders = λ k near. total_same (λ (u : View). total (of_slot k) u.turns) c.views j v w sits (change_same (is_slot n) (λ t. record t { out = b }) (of_slot k) (λ t. refl) v.turns) ∙ s.turns.holders k near;
     owner = each_set (λ i u. Every (λ t. get_elem? c.turns t.slot ≡ some (i + 1)) u.turns) c.views j w s.turns.owner
         (change_every (is_slot n) (λ t. record t { out = b }) (λ t. get_elem? c.turns t.slot ≡ some (j + 1)) (λ t e. e) v.turns (s.turns.owner j v sits));
@@ -138,6 +141,7 @@ module _ (c : Core) (j : ℕ) (v : View) (sits : At c.views j v) (seat : v.role 
     where
       taken : get_or c.turns n 0 ≡ 0 → Whole (with_view (record c { turns = set c.turns n (j + 1) }) j (record v { turns = record { slot = n; out = false } ∷ v.turns }))
       taken free = let w : View = record v { turns = record { slot = n; out = false } ∷ v.turns } in let ts : List ℕ = set c.turns n (j + 1) in turns_alone w ts refl refl refl refl refl refl refl refl record {
+        numbered = each_set (λ i u. (i < c.seats → u.number ≡ i) × (u.number < c.seats)) c.views j w s.turns.numbered (s.turns.numbered j v sits);
         holders = λ k near. let near' : k < length c.turns = subst (λ (z : ℕ). k < z) (length-set c.turns n (j + 1)) near in let z = total_set (λ (u : View). total (of_slot k) u.turns) c.views j v w sits in let h = s.turns.holders k near' in
             mathlib.Core.Logic.dite (native.Mathlib.Decide.ℕ_discrete n k)
             (λ t. let a : one_if (n == k) ≡ 1 = ap one_if (eq-eqb n k t) in let f : one_if (not (get_or c.turns k 0 == 0)) ≡ 0 = ap (λ i. one_if (not (get_or c.turns i 0 == 0))) (sym t) ∙ ap (λ b. one_if (not (b == 0))) free in
@@ -168,6 +172,7 @@ module _ (c : Core) (j : ℕ) (v : View) (sits : At c.views j v) (seat : v.role 
       let none_left : total (of_slot n) w.turns ≡ 0 = (let a = without_total (is_slot n) (of_slot n) v.turns mine.0 mine.1 in let b = of_slot_here n mine.0 (slot_is n mine.0 (first_passes (is_slot n) v.turns mine.0 mine.1)) in
       let h = s.turns.holders n near in let k = total_one (λ (u : View). total (of_slot n) u.turns) c.views j v sits in let m = at_most (not (get_or c.turns n 0 == 0)) in omega arith) in
       turns_alone w ts refl refl refl refl refl refl refl refl record {
+        numbered = each_set (λ i u. (i < c.seats → u.number ≡ i) × (u.number < c.seats)) c.views j w s.turns.numbered (s.turns.numbered j v sits);
         holders = λ k inside. let inside' : k < length c.turns = subst (λ (z : ℕ). k < z) (length-set c.turns n 0) inside in let z = total_set (λ (u : View). total (of_slot k) u.turns) c.views j v w sits in let h = s.turns.holders k inside' in
             let a = without_total (is_slot n) (of_slot k) v.turns mine.0 mine.1 in
             mathlib.Core.Logic.dite (native.Mathlib.Decide.ℕ_discrete n k)
@@ -213,22 +218,25 @@ module _ (c : Core) (j : ℕ) (v : View) (sits : At c.views j v) (seat : v.role 
 
   pub performs : (n : ℕ) (t : Tag) → MayStep c j v (PlaceExecute n t) → Whole (after_step c j v (PlaceExecute n t))
   performs n t ok = let d : ℕ = n / 8 in let m = least_there (is_held t d) v.holds ok.2 in let h : Hold = m.0 in let w : View = after_execute c t d v in let e : Entry = new_entry c t (by.Execute (place_of (least (is_held t d) v.holds))) in
-      let is = held_is t d h (least_passes (is_held t d) v.holds h m.1) in let at : place_of (least (is_held t d) v.holds) ≡ h.place = ap place_of m.1 in record {
+      let is = held_is t d h (least_passes (is_held t d) v.holds h m.1) in let at : place_of (least (is_held t d) v.holds) ≡ h.place = ap place_of m.1 in
+      let named : (k : ℕ) (p : ℕ → ℕ → Bool) → one_if ((place_of (least (is_held t d) v.holds) == k) && is_named p t) ≡ one_if ((h.place == k) && is_named p h.call)
+      = λ k p. ap (λ (z : ℕ × ℕ × ℕ). one_if ((z.0 == k) && p z.1 z.2)) (λ i. (at i, sym is.3.0 i, sym is.3.1 i)) in record {
         puts = s.puts;
-        places = places_draw c.given c.serial c.quotas c.editor.published c.views j v w sits s.places e refl refl refl (adds_finished c e v) ok.0 refl refl;
+        places = places_draw c.given c.serial c.quotas c.editor.published c.views j v w sits s.places e refl refl refl (adds_finished c e v) ok.0 refl refl (change_every (is_least (is_held t d) v.holds) now_done (λ h. h.place < v.seen) (λ h x. x) v.holds (s.places.known j v sits).1);
         sides = sides_move c.seats c.rows c.serial c.sides c.editor c.views s.sides j v w sits (λ r e. inr e);
         sections = sections_stay c.seats c.serial c.editor.marks c.views j v w sits s.sections seat seat refl refl refl;
         references = references_same c.seats c.disks c.editor.drains c.views s.puts j v w sits s.references (let a = (adds_finished c e v).0 has_got in omega arith) (change_same (is_least (is_held t d) v.holds) now_done any_hold (λ x. refl) v.holds) (λ i. change_same (is_least (is_held t d) v.holds) now_done (on_disk i) (λ x. refl) v.holds);
         modes = modes_move c.seats c.serial c.disks c.editor c.views j v w sits s.modes (loaded_stays c.editor j v w v.loaded refl refl
             (λ i may. ⊎_elim (λ (a : (r : ℕ) × Reads v r × Shows c.editor r i). inl a) (λ a. inr (change_some (is_least (is_held t d) v.holds) now_done (is_on i) (λ x. refl) v.holds a)) may) (s.modes.loaded j v sits));
         shown = shown_stay c.seats c.serial c.disks c.editor c.views j v w sits s.shown refl refl;
-        turns = turns_stay c.turns c.views j v w sits refl s.turns;
+        turns = turns_stay c.seats c.turns c.views j v w sits refl refl s.turns;
         executes = executes_move c.views j v w sits s.executes
-            (λ k. let a = change_total (is_least (is_held t d) v.holds) now_done (waiting_hold k) v.holds h m.1 in let b = (adds_finished c e v).0 (execute_of k) in let z = (adds_finished c e v).0 (submit_got k) in
-            let x = waits_then (h.place == k) (not (is_bare h.call)) (not h.executed) is.1 is.2 in let y = none_waits (h.place == k) (not (is_bare h.call)) in let g = ap (λ i. one_if (i == k)) at in let q = no_got (c.given == k) in omega arith)
-            (λ k. let a = change_total (is_least (is_held t d) v.holds) now_done (done_hold k) v.holds h m.1 in let b = (adds_finished c e v).0 (execute_of k) in
-            let x = done_then (h.place == k) (not (is_bare h.call)) is.1 in let y = not_done (h.place == k) (not (is_bare h.call)) h.executed is.2 in let g = ap (λ i. one_if (i == k)) at in omega arith)
-            (λ k. let a = change_same (is_least (is_held t d) v.holds) now_done (bare_hold k) (λ x. refl) v.holds in let z = (adds_finished c e v).0 (bare_got k) in let q = no_bare (c.given == k) in omega arith);
+            (λ k p. let a = change_total (is_least (is_held t d) v.holds) now_done (waiting_hold k p) v.holds h m.1 in let b = (adds_finished c e v).0 (execute_of k p) in let z = (adds_finished c e v).0 (submit_got k p) in
+            let x = waits_then ((h.place == k) && is_named p h.call) (not (is_bare h.call)) (not h.executed) is.1 is.2 in let y = none_waits ((h.place == k) && is_named p h.call) (not (is_bare h.call)) in let g = named k p in let q = no_got ((c.given == k) && is_named p t) in omega arith)
+            (λ k p. let a = change_total (is_least (is_held t d) v.holds) now_done (done_hold k p) v.holds h m.1 in let b = (adds_finished c e v).0 (execute_of k p) in
+            let x = done_then ((h.place == k) && is_named p h.call) (not (is_bare h.call)) is.1 in let y = not_done ((h.place == k) && is_named p h.call) (not (is_bare h.call)) h.executed is.2 in let g = named k p in omega arith)
+            (λ k p. let a = change_same (is_least (is_held t d) v.holds) now_done (bare_hold k p) (λ x. refl) v.holds in let z = (adds_finished c e v).0 (bare_got k p) in let q = no_bare ((c.given == k) && is_named p t) in omega arith)
+            (λ k p. let a = change_same (is_least (is_held t d) v.holds) now_done (got_by k p) (λ x. refl) v.holds in let z = (adds_finished c e v).0 (got_at k p) in omega arith);
       }
     where
       no_got : (p : Bool) → one_if (p && (false && not (is_bare t))) ≡ 0

@@ -2,4 +2,6 @@ pub mod State
 pub mod Steps
 pub mod Soundness
 pub mod Runs
-pub mod Lending
+pub mod Lives
+pub mod OneStep
+pub mod Owners

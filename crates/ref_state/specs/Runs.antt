@@ -44,7 +44,7 @@ abbrev pub ShownKept : Type 0
 ShownKept = KeptByEachStep (λ c. ShownIsLive c.serial c.editor c.views)
 
 abbrev pub TurnsKept : Type 0
-TurnsKept = KeptByEachStep (λ c. TurnsOwned c.turns c.views)
+TurnsKept = KeptByEachStep (λ c. TurnsOwned c.seats c.turns c.views)
 
 abbrev pub HoldsKept : Type 0
 HoldsKept = KeptByEachStep (λ c. OneHoldPerSubmit c.views)

@@ -3,6 +3,7 @@
 use Rattle.std.specs.Prelude.{◌≡◌, ◌≢◌, ◌⊎◌, ◌↔◌, ℕ, ◌+◌, ◌-◌, ◌%◌, ◌<◌, ◌≤◌, Bool, true, false, not, ◌==◌, nat_le, List, [], ◌∷◌, length, slice_index, slice_index_or, replicate, Some, None}
 use mathlib.Core.Option.{some}
 use lib.ListN.{get_elem?}
+use Rattle.ref_state.specs.declared.kinds.Tag.{Tag}
 use Rattle.ref_state.specs.declared.state.Entry.{Entry}
 use Rattle.ref_state.specs.declared.state.Section.TheVariants.{Out}
 use Rattle.ref_state.specs.declared.state.LoadedMode.{LoadedMode}
@@ -45,6 +46,10 @@ pub record EntryOk (n : ℕ) (ps : List Published) (e : Entry) : Type 0 where
   pub published : is_publish e.by ≡ true → get_elem? ps (e.serial - 1) ≡ some record { place = e.place; call = e.call }
   pub plain : is_publish e.by ≡ false → (p : Published) → get_elem? ps (e.serial - 1) ≡ some p → p.place ≢ e.place
 
+-- a seat or part has seen the places of all the entries and holds that it keeps
+abbrev pub KeepsSeen : View → Type 0
+KeepsSeen v = Every (λ e. e.place < v.seen) (kept v) × Every (λ h. h.place < v.seen) v.holds
+
 -- The entries of all seats and parts have the places 0 to n - 1, each once: the clock hands out each place to one step. That an open
 -- section's place is that of one unfinished entry is true by form, since the section has that entry
 pub record PlacesAndSerials (given serial quotas : ℕ) (ps : List Published) (views : List View) : Type 0 where
@@ -59,6 +64,8 @@ pub record PlacesAndSerials (given serial quotas : ℕ) (ps : List Published) (v
   pub left : given + total (λ v. v.left) views ≡ quotas
   pub small : quotas < 4294967296
   pub seen : Each views (λ j v. v.seen ≤ given)
+  -- the next place that a seat draws is above all that it keeps
+  pub known : Each views (λ _ v. KeepsSeen v)
 
 -- ## 2. The two sides
 
@@ -81,6 +88,7 @@ pub record SidesAgree (n rows serial : ℕ) (sides : List (List ℕ)) (k : Edito
 pub record GracePeriod (seats serial : ℕ) (marks : List Mark) (views : List View) : Type 0 where
   -- for the induction: the seats come first, and who is no seat has no section
   pub many : seats ≤ length views
+  pub marked : length marks ≡ seats
   pub seats_first : Each views (λ j v. (v.role ≡ Seat → j < seats) × (v.role ≢ Seat → v.section ≡ Out))
   pub odd : Each views (λ j v. is_odd v.word ≡ is_open v.section)
   pub old : Each views (λ j v. (s : ℕ) → Reads v s → s + 1 ≡ serial → IsAwaited (mark marks j) v.word)
@@ -121,8 +129,8 @@ puts_of views = entries has_got views - holds any_hold views
 
 pub record SplitCountsBalance (n : ℕ) (disks : List Disk) (drains : List Drain) (views : List View) : Type 0 where
   pub standing : holds any_hold views ≤ entries has_got views
-  -- each hold that stands is that of one entry whose section got it, and no two are of the same
-  pub of_one : (k : ℕ) → holds (got_by k) views ≤ entries (got_at k) views
+  -- each hold that stands is that of one entry whose section got it, at its place and with its call, and no two are of the same
+  pub of_one : (k : ℕ) (p : Tag → Bool) → holds (got_by k p) views ≤ entries (got_at k p) views
   pub as_many : length drains ≡ length disks
   pub counts : (d : ℕ) → d < length disks → SplitCount n (entries has_got views) (puts_of views) (holds_on d views) (slice_index_or disks d no_disk) (slice_index_or drains d no_drain)
 
@@ -153,7 +161,7 @@ pub record ModeSnapshots (n : ℕ) (disks : List Disk) (k : Editor) (views : Lis
   pub looked : (d : ℕ) → (drain k d).phase ≡ phase.Killed → (o : ℕ) (x : Count) → slice_index_or (drain k d).looked o None ≡ Some x
       → AllPassed n (drain k d).marks × (slice_index_or (slice_index_or disks d no_disk).own o no_count ≡ x)
   -- for the induction
-  pub wide : (d : ℕ) → (drain k d).phase ≡ phase.Killed → length (drain k d).looked ≡ n
+  pub wide : (d : ℕ) → (drain k d).phase ≡ phase.Killed → (length (drain k d).looked ≡ n) × (length (drain k d).marks ≡ n)
 
 -- ## 7. What is shown is live
 
@@ -165,19 +173,22 @@ pub record ShownIsLive (serial : ℕ) (k : Editor) (views : List View) : Type 0 
 
 -- ## 8. Turns
 
--- A turn is 0 exactly where no seat has it, else the number of its holder plus 1. So two seats never reach one extent
-pub record TurnsOwned (turns : List ℕ) (views : List View) : Type 0 where
+-- Seat j has the number j, also once it was joined, and a part has that of a seat. A turn is 0 exactly where no seat has it, else the number
+-- of its holder plus 1. So two seats never reach one extent
+pub record TurnsOwned (seats : ℕ) (turns : List ℕ) (views : List View) : Type 0 where
+  pub numbered : Each views (λ j v. (j < seats → v.number ≡ j) × (v.number < seats))
   pub holders : (s : ℕ) → s < length turns → total (λ v. total (of_slot s) v.turns) views ≡ one_if (not (slice_index turns s == 0))
   pub owner : Each views (λ j v. Every (λ t. get_elem? turns t.slot ≡ some (j + 1)) v.turns)
 
 -- ## 9. One hold for each submit
 
 -- For each place k of a submit whose section got a hold: its Execute is placed, or one hold waits for it, and not both. A hold that is marked
--- as having its Execute placed has it. A bare call's hold is its own. That a submit that isn't finished has its section open is true by form
+-- as having its Execute placed has it. A bare call's hold is its own. Said of every test p of a caller and a number, this is said of the
+-- submit with its name: its hold and its Execute have the same. That a submit that isn't finished has its section open is true by form
 pub record OneHoldPerSubmit (views : List View) : Type 0 where
-  pub submits : (k : ℕ) → holds (waiting_hold k) views + entries (execute_of k) views ≡ entries (submit_got k) views
-  pub executed : (k : ℕ) → holds (done_hold k) views ≤ entries (execute_of k) views
-  pub bare : (k : ℕ) → holds (bare_hold k) views ≤ entries (bare_got k) views
+  pub submits : (k : ℕ) (p : ℕ → ℕ → Bool) → holds (waiting_hold k p) views + entries (execute_of k p) views ≡ entries (submit_got k p) views
+  pub executed : (k : ℕ) (p : ℕ → ℕ → Bool) → holds (done_hold k p) views ≤ entries (execute_of k p) views
+  pub bare : (k : ℕ) (p : ℕ → ℕ → Bool) → holds (bare_hold k p) views ≤ entries (bare_got k p) views
 
 -- ## The whole
 
@@ -189,7 +200,7 @@ pub record IsSound (c : Core) : Type 0 where
   pub folded_counts : FoldedCountExact c.disks c.editor.drains c.views
   pub modes : ModeSnapshots c.seats c.disks c.editor c.views
   pub shown : ShownIsLive c.serial c.editor c.views
-  pub turns : TurnsOwned c.turns c.views
+  pub turns : TurnsOwned c.seats c.turns c.views
   pub holds : OneHoldPerSubmit c.views
 
 -- ## The opened core

@@ -92,21 +92,25 @@ has_place k e = one_if (e.place == k)
 abbrev pub has_got : Entry → ℕ
 has_got e = one_if e.got
 
--- at this place, and its section got a hold
-abbrev pub got_at : ℕ → Entry → ℕ
-got_at k e = one_if ((e.place == k) && e.got)
+-- at this place, with a call that p takes, and its section got a hold
+abbrev pub got_at : ℕ → (Tag → Bool) → Entry → ℕ
+got_at k p e = one_if (((e.place == k) && p e.call) && e.got)
 
--- a submit at this place whose section got a hold
-abbrev pub submit_got : ℕ → Entry → ℕ
-submit_got k e = one_if ((e.place == k) && (e.got && not (is_bare e.call)))
+-- p takes the caller and the number of the call
+abbrev pub is_named : (ℕ → ℕ → Bool) → Tag → Bool
+is_named p t = p t.caller t.number
 
--- a bare call at this place whose section got a hold
-abbrev pub bare_got : ℕ → Entry → ℕ
-bare_got k e = one_if ((e.place == k) && (e.got && is_bare e.call))
+-- a submit at this place, with a name that p takes, whose section got a hold
+abbrev pub submit_got : ℕ → (ℕ → ℕ → Bool) → Entry → ℕ
+submit_got k p e = one_if (((e.place == k) && is_named p e.call) && (e.got && not (is_bare e.call)))
 
--- an Execute of the submit at this place
-abbrev pub execute_of : ℕ → Entry → ℕ
-execute_of k e = one_if (executes e.by k)
+-- a bare call at this place, with a name that p takes, whose section got a hold
+abbrev pub bare_got : ℕ → (ℕ → ℕ → Bool) → Entry → ℕ
+bare_got k p e = one_if (((e.place == k) && is_named p e.call) && (e.got && is_bare e.call))
+
+-- an Execute of the submit at this place, with a name that p takes
+abbrev pub execute_of : ℕ → (ℕ → ℕ → Bool) → Entry → ℕ
+execute_of k p e = one_if (executes e.by k && is_named p e.call)
 
 abbrev pub published_entry : Entry → ℕ
 published_entry e = one_if (is_publish e.by)
@@ -119,21 +123,21 @@ any_hold h = 1
 abbrev pub on_disk : ℕ → Hold → ℕ
 on_disk d h = one_if (h.disk == d)
 
--- got by the section at this place
-abbrev pub got_by : ℕ → Hold → ℕ
-got_by k h = one_if (h.place == k)
+-- got by the section at this place, with a call that p takes
+abbrev pub got_by : ℕ → (Tag → Bool) → Hold → ℕ
+got_by k p h = one_if ((h.place == k) && p h.call)
 
--- got by the submit at this place, its Execute not placed
-abbrev pub waiting_hold : ℕ → Hold → ℕ
-waiting_hold k h = one_if ((h.place == k) && (not (is_bare h.call) && not h.executed))
+-- got by the submit at this place, with a name that p takes, its Execute not placed
+abbrev pub waiting_hold : ℕ → (ℕ → ℕ → Bool) → Hold → ℕ
+waiting_hold k p h = one_if (((h.place == k) && is_named p h.call) && (not (is_bare h.call) && not h.executed))
 
--- got by the submit at this place, its Execute placed
-abbrev pub done_hold : ℕ → Hold → ℕ
-done_hold k h = one_if ((h.place == k) && (not (is_bare h.call) && h.executed))
+-- got by the submit at this place, with a name that p takes, its Execute placed
+abbrev pub done_hold : ℕ → (ℕ → ℕ → Bool) → Hold → ℕ
+done_hold k p h = one_if (((h.place == k) && is_named p h.call) && (not (is_bare h.call) && h.executed))
 
--- got by the bare call at this place
-abbrev pub bare_hold : ℕ → Hold → ℕ
-bare_hold k h = one_if ((h.place == k) && is_bare h.call)
+-- got by the bare call at this place, with a name that p takes
+abbrev pub bare_hold : ℕ → (ℕ → ℕ → Bool) → Hold → ℕ
+bare_hold k p h = one_if (((h.place == k) && is_named p h.call) && is_bare h.call)
 
 -- how many holds on a disk stand: what its reference has to count
 abbrev pub holds_on : ℕ → List View → ℕ

@@ -1,6 +1,6 @@
 -- The kinds of atomic step: where each is allowed, what it makes of the core, and what it answers. Each is one step on one word or slot, or
 -- on none; beside that word it changes what the stepping seat keeps, and nothing of another seat. `split` and `join` have two.
-use Rattle.std.specs.Prelude.{◌≡◌, ◌≢◌, ◌⊎◌, ℕ, zero, suc, ◌+◌, ◌-◌, ◌/◌, ◌%◌, ◌<◌, Bool, true, false, not, nat_le, ◌&&◌, ◌==◌, if◌then◌else◌, List, [], ◌∷◌, ◌++◌, map, length, replicate, slice_index, slice_index_or, slice_set, Option, Some, None}
+use Rattle.std.specs.Prelude.{◌≡◌, ◌≢◌, ◌⊎◌, ℕ, zero, suc, ◌+◌, ◌-◌, ◌/◌, ◌%◌, ◌<◌, Bool, true, false, not, nat_le, ◌&&◌, ◌==◌, if◌then◌else◌, List, [], ◌∷◌, ◌++◌, map, length, max, replicate, slice_index, slice_index_or, slice_set, Option, Some, None}
 use Rattle.ref_state.specs.declared.kinds.Tag.{Tag}
 use Rattle.ref_state.specs.declared.kinds.Take.{Take}
 use Rattle.ref_state.specs.declared.kinds.Take.TheVariants as take
@@ -191,7 +191,7 @@ MayTake (take.Entry p) v = (e : Entry) × (first (is_at p) v.entries ≡ Some e)
 
 -- v with all that u kept
 abbrev pub after_join : View → View → View
-after_join v u = record v { holds = u.holds ++ v.holds; left = v.left + u.left; seen = if v.seen - u.seen == 0 then u.seen else v.seen; entries = u.entries ++ v.entries }
+after_join v u = record v { holds = u.holds ++ v.holds; left = v.left + u.left; seen = max v.seen u.seen; entries = u.entries ++ v.entries }
 
 -- one that was joined keeps nothing. A seat's section word stays, since the editor may still look at it
 abbrev pub spent_view : View → View

@@ -2,6 +2,9 @@
 ghost use Rattle.std.specs.Prelude.{◌≡◌, ℕ, List, sum_by};
 ghost use Rattle.ref_state.specs.State.{total};
 ghost use Rattle.ref_state.specs.Runs.{PlacesKept, SidesKept, SectionsKept, SplitCountsKept, FoldedCountsKept, ModesKept, ShownKept, TurnsKept, HoldsKept, SoundKept, AlwaysSound, ReadSideStays, RowsOfSerial, LastSerialAlone, ConfsStay, WordsAreCounters, ShownCounts, GetsMeetNoFold, FoldedIsHolds, LastPutEnds, DoneIsOver, OverStays};
+ghost use Rattle.ref_state.specs.Lives.{DonesFollowLives, DoneOnceInLife, LifeAfterItsDone};
+ghost use Rattle.ref_state.specs.OneStep.{PutThatFindsOne, WordsFollowCounts, OthersStay, EntriesAndPlacesLeft, GatheredHasAll, LookTells, PlacesAreNew, JoinKeepsTheLarger};
+ghost use Rattle.ref_state.specs.Owners.{HoldsHaveEntries, ExecutesHaveSubmits, PartOfItsSeat, NumbersStay};
 
 /// Every allowed step from a sound core leaves each place with one entry, and each entry with the serial of its place.
 pub fn places_kept()
@@ -100,6 +103,58 @@ pub fn done_is_over()
 /// once in a life.
 pub fn over_stays()
     ensures { OverStays }
+{}
+
+/// A life of a disk's reference has one Done: it is placed at most once before the disk is made live again, and the disk is made live
+/// again only where it was placed. Along a whole run the Dones are as many as the new lives, but for one that is placed in the life that stands.
+pub fn life_has_one_done()
+    ensures runs { DonesFollowLives }
+    ensures once { DoneOnceInLife }
+    ensures before { LifeAfterItsDone }
+{}
+
+/// A put that finds 1 on the shared count put the last hold of a folded life: none stands any more.
+pub fn put_tells_the_end()
+    ensures { PutThatFindsOne }
+{}
+
+/// A fetch-add on the word of a counter leaves the word of the counter after it.
+pub fn words_follow_counts()
+    ensures { WordsFollowCounts }
+{}
+
+/// A step changes what its seat keeps, and of the others only one that it joins.
+pub fn others_stay()
+    ensures { OthersStay }
+{}
+
+/// Entries and places left are the quotas. So a seat that has gathered as many keeps the entry of every place that was given.
+pub fn gathered_has_all()
+    ensures quotas { EntriesAndPlacesLeft }
+    ensures every { GatheredHasAll }
+{}
+
+/// After a look at a section word the seat has passed, or is noted with the odd word just found, for every grace period under way.
+pub fn look_tells()
+    ensures { LookTells }
+{}
+
+/// A place is none that its seat has seen before, and the seat has seen it afterwards. Who joins another has seen what either had.
+pub fn places_are_new()
+    ensures places { PlacesAreNew }
+    ensures joins { JoinKeepsTheLarger }
+{}
+
+/// A hold belongs to one entry by place and call, and an Execute to one submit by place, caller and number.
+pub fn holds_have_entries()
+    ensures holds { HoldsHaveEntries }
+    ensures executes { ExecutesHaveSubmits }
+{}
+
+/// A part has the number of the seat that it was split from, and no step changes a number.
+pub fn numbers_stay()
+    ensures parts { PartOfItsSeat }
+    ensures all { NumbersStay }
 {}
 
 /// The sums in the definitions are std's sums over a list.

@@ -6,7 +6,6 @@
 //! reference counter (lib/percpu-refcount.c).
 #![tactic(auto)]
 
-pub mod items;
 pub mod kinds;
 pub mod laws;
 pub mod state;

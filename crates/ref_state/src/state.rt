@@ -1,7 +1,7 @@
 //! The state of the core as plain data: the shared words, what each seat or part of a seat keeps, and what the
 //! editor's seat keeps beside. The types serve as the code's data and as what contracts see.
-use crate::items::Items;
 use crate::kinds::Tag;
+use lists::items::Items;
 
 /// By which kind of step an entry took its place on the clock.
 #[derive(Clone, Copy)]

@@ -1,8 +1,0 @@
-use Rattle.std.proofs.Common.{◌≡◌, ◌++◌, take}
-use Rattle.ref_state.proofs.items.Items.joined.Given as goal
-
-abbrev pub invariant-loop-x : goal.invariant-loop-x
-invariant-loop-x g l = l.all ≡ take l.x-index l.self
-
-abbrev pub invariant-loop-y : goal.invariant-loop-y
-invariant-loop-y g l = l.all ≡ l.self ++ take l.y-index l.other
