@@ -10,7 +10,6 @@
 """
 
 import re
-from collections import namedtuple
 
 from nvmet_formats import (
     BLOCKS, BY_BLOCKS, BY_BYTES, BY_DATA, CAPSULE_LIMIT, COMMAND_BY_NAME, CONNECT_BYTES, CONNECT_FIELDS,
@@ -22,7 +21,6 @@ BLOCK_SIZES = (512, 4096)
 RAW = Command("raw", None, None, [Field("fctype", *FCTYPE)], BY_DATA)
 FLAGS = 0x40  # an SGL, and no fused command
 PLAIN_NAMES = re.compile(b"[!-~]*")
-Step = namedtuple("Step", "first step")
 
 
 def number(text):

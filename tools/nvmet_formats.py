@@ -187,7 +187,7 @@ def serves_admin(capsules):
 
 Completion = namedtuple("Completion", "result sq_head sq_id cid status")
 
-GENERIC_STATUS, SPECIFIC_STATUS, MEDIA_STATUS, PATH_STATUS = 0, 1, 2, 3
+SPECIFIC_STATUS = 1  # the status code type of a command's own errors
 
 # Status code type and status code, as NVMe Base 2.0, NVM Command Set 1.0 and NVMe over Fabrics name them.
 STATUS_NAMES = {
@@ -533,10 +533,8 @@ AnaPage = namedtuple("AnaPage", "chgcnt ngrps groups whole")
 
 
 def read_ana_page(blob):
-    """The ANA page, as far as the bytes go: header, then each group with its namespaces."""
+    """The ANA page from its header on, as far as the bytes go: each group with its namespaces."""
     number = lambda at, size: int.from_bytes(blob[at:at + size], "little")
-    if len(blob) < ANA_HEADER_BYTES:
-        return AnaPage(number(0, 8), 0, [], False)
     groups, at, count = [], ANA_HEADER_BYTES, number(8, 2)
     while len(groups) < count and at + ANA_GROUP_BYTES <= len(blob):
         held = number(at + 4, 4)

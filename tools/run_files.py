@@ -5,7 +5,7 @@ from collections import namedtuple
 
 from capsule_text import line_of as command_line, say_entry
 from nvmet_formats import (
-    ACTIVE_LIST_ENTRIES, ANA_LOG, ANA_STATES, ANSWERED, ANSWERS, CHANGED_NAMESPACES_LOG, CNS_ACTIVE_LIST,
+    ACTIVE_LIST_ENTRIES, ANA_HEADER_BYTES, ANA_LOG, ANA_STATES, ANSWERED, ANSWERS, CHANGED_NAMESPACES_LOG, CNS_ACTIVE_LIST,
     CNS_CONTROLLER, CNS_DESCRIPTORS, CNS_NAMESPACE, CONTROLLER_FIELDS, ENTRY_FIELDS, KINDS, NAMESPACE_FIELDS, POLL, SUBMIT,
     Bad, bits_of, command_of, read_ana_page, read_capsules, read_descriptors, read_event, read_fields, read_file,
     read_journal, read_lba_formats, read_nsid_list, read_plan, read_responses, read_status, serves_admin, text_lines)
@@ -15,8 +15,8 @@ PAGE_WIDTH = 10
 ALL_NAMESPACES = 0xFFFFFFFF
 
 # A call of a run. `caller` is the editor or a queue, `queue` its number from 1, `record` that of a queue and `edit` the
-# journal's line of the editor. `command` is the command's name, `cid` its command identifier, `text` the command with its
-# fields or the script's line, `page` what the data are: (kind, offset, NSID), or None.
+# journal's line of the editor. `command` is the command's name, `cid` its command identifier, `text` the command with
+# its fields or the script's line, `page` what the data are: (kind, offset, NSID), or None.
 Call = namedtuple("Call", "place caller queue record edit command cid text page")
 Run = namedtuple("Run", "plan places calls queues")
 
@@ -172,7 +172,7 @@ def page_lines(call):
     """The lines of the page that a call carries."""
     kind, offset, nsid = call.page
     data = call.record.data
-    if kind == "ana-log" and offset:
+    if kind == "ana-log" and (offset or len(data) < ANA_HEADER_BYTES):
         return ["%s from offset %d:" % (kind, offset)] + dump_lines(data)
     printers = {"id-ctrl": controller_lines, "id-ns": lambda data: namespace_lines(data, nsid),
                 "ns-descs": lambda data: descriptor_lines(data, nsid),
@@ -276,7 +276,7 @@ def page_object(call):
         known.update(read_descriptors(data))
     elif kind in ("list-ns", "changed-ns-list-log"):
         known["nsids"] = read_nsid_list(data)
-    elif offset == 0:
+    elif offset == 0 and len(data) >= ANA_HEADER_BYTES:
         page = read_ana_page(data)
         groups = [dict(group._asdict(), state=ANA_STATES.get(group.state, group.state)) for group in page.groups]
         known.update(chgcnt=page.chgcnt, ngrps=page.ngrps, groups=groups, whole=page.whole)
