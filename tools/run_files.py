@@ -5,10 +5,11 @@ from collections import namedtuple
 
 from capsule_text import line_of as command_line, say_entry
 from nvmet_formats import (
-    ACTIVE_LIST_ENTRIES, ANA_HEADER_BYTES, ANA_LOG, ANA_STATES, ANSWERED, ANSWERS, CHANGED_NAMESPACES_LOG, CNS_ACTIVE_LIST,
-    CNS_CONTROLLER, CNS_DESCRIPTORS, CNS_NAMESPACE, CONTROLLER_FIELDS, ENTRY_FIELDS, KINDS, NAMESPACE_FIELDS, POLL, SUBMIT,
-    Bad, bits_of, command_of, read_ana_page, read_capsules, read_descriptors, read_event, read_fields, read_file,
-    read_journal, read_lba_formats, read_nsid_list, read_plan, read_responses, read_status, serves_admin, text_lines)
+    ACTIVE_LIST_ENTRIES, ANA_HEADER_BYTES, ANA_LOG, ANA_STATES, ANSWERED, ANSWERS, CHANGED_NAMESPACES_LOG,
+    CNS_ACTIVE_LIST, CNS_CONTROLLER, CNS_DESCRIPTORS, CNS_NAMESPACE, CONTROLLER_FIELDS, ENTRY_FIELDS, KINDS,
+    NAMESPACE_FIELDS, POLL, SUBMIT, Bad, bits_of, command_of, read_ana_page, read_capsules, read_descriptors,
+    read_event, read_fields, read_file, read_journal, read_lba_formats, read_nsid_list, read_plan, read_responses,
+    read_status, serves_admin, text_lines)
 
 EDITOR = "editor"
 PAGE_WIDTH = 10

@@ -1,11 +1,10 @@
 """A run as an SVG: lanes for the editor and the queues, places along the axis."""
 
 from collections import Counter, namedtuple
-from xml.sax.saxutils import escape
-
 from nvmet_formats import (
     ANSWERED, CONTROL, DISABLE, EXECUTE, HELD, POLL, SUBMIT, WAITING, read_event, read_status)
 from run_files import EDITOR, line_of
+from svg import INK, RAIL, SOFT, circle, cross, diamond, line, rect, sheet as svg_sheet, short, tag, words
 
 BAND_ABOVE = 800  # places from which on the lanes are bands
 PLOT_WIDTH, LEFT, RIGHT, TOP = 1400, 130, 30, 76
@@ -14,8 +13,6 @@ LANE, BAND_LANE, AXIS = 72, 92, 40
 LEGEND_WIDTH = 1240
 BAND, BIN_PIXELS, BIN_PLACES = 46, 4, 6  # height of a band; the least width of one stretch
 FULL_SHARE = 0.98  # so many stretches fit into a band; what is higher is cut at its edge
-FONT = "DejaVu Sans, Verdana, sans-serif"
-INK, RAIL, SOFT = "#222", "#c8c8c8", "#777"
 RED, AMBER, GREEN, VIOLET = "#c62828", "#f0a020", "#2e7d32", "#6a3d9a"
 NOTICE = "#e65100"
 
@@ -84,51 +81,6 @@ def answers_of(calls):
     return answers
 
 
-# SVG
-
-def tag(name, title=None, body="", **attributes):
-    """An element. An underscore in a name of an attribute stands for a hyphen."""
-    words = "".join(' %s="%s"' % (key.replace("_", "-"), escape(str(value), {'"': "&quot;"}))
-                    for key, value in attributes.items())
-    inner = ("<title>%s</title>" % escape(title) if title else "") + body
-    return "<%s%s>%s</%s>" % (name, words, inner, name) if inner else "<%s%s/>" % (name, words)
-
-
-def short(value):
-    """A coordinate with one digit at most behind the point."""
-    return ("%.1f" % value).rstrip("0").rstrip(".")
-
-
-def rect(x, y, width, height, fill, title=None, **more):
-    return tag("rect", title, x=short(x), y=short(y), width=short(width), height=short(height), fill=fill, **more)
-
-
-def line(x1, y1, x2, y2, stroke, title=None, **more):
-    return tag("line", title, x1=short(x1), y1=short(y1), x2=short(x2), y2=short(y2), stroke=stroke, **more)
-
-
-def words(x, y, text, size=11, fill=INK, anchor="start", turned=False, title=None, **more):
-    if turned:
-        more["transform"] = "rotate(90 %s %s)" % (short(x), short(y))
-    return tag("text", title, escape(text), x=short(x), y=short(y), font_size=size, fill=fill, text_anchor=anchor,
-               **more)
-
-
-def cross(x, y, size, colour, title):
-    path = "M%s %sl%d %dm0 %dl%d %d" % (short(x - size), short(y - size), 2 * size, 2 * size, -2 * size,
-                                        -2 * size, 2 * size)
-    return tag("path", title, d=path, stroke=colour, stroke_width=2.2, fill="none")
-
-
-def diamond(x, y, size, colour, title):
-    path = "M%s %sl%d %dl%d %dl%d %dz" % (short(x), short(y - size), size, size, -size, size, -size, -size)
-    return tag("path", title, d=path, fill=colour)
-
-
-def circle(x, y, radius, fill, title, **more):
-    return tag("circle", title, cx=short(x), cy=short(y), r=radius, fill=fill, **more)
-
-
 # The whole
 
 class Sheet:
@@ -178,10 +130,7 @@ def draw(run, name):
     draw_axis(sheet)
     draw_legend(sheet)
     width, height = max(LEFT + sheet.width + RIGHT, LEGEND_WIDTH), sheet.bottom + AXIS + 66
-    head = ('<?xml version="1.0" encoding="UTF-8"?>\n<svg xmlns="http://www.w3.org/2000/svg" width="%d" height="%d" '
-            'viewBox="0 0 %d %d" font-family="%s">\n' % (width, height, width, height, FONT))
-    paper = rect(0, 0, width, height, "white")
-    return head + paper + "\n" + "\n".join(sheet.parts) + "\n</svg>\n"
+    return svg_sheet(width, height, sheet.parts)
 
 
 def plural(count, word):
