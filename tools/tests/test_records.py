@@ -54,7 +54,9 @@ BAD_RECORDS = [
     (record(0, 1, 0, 0, "01" + "00" * 15), "offset 0: a completion where none was answered"),
 ]
 
-# The pages: the command, its bytes by the tables of the formats, and lines that `nvme` prints of them.
+# The pages: the command, its bytes by the tables of the formats, and lines that `nvme` prints of them. (nvme-cli 2.3
+# itself was given these pages once, in place of a device's answers: but for the power states and the device's name in
+# the first line of ana-log it printed these lines, to the byte.)
 CONTROLLER = placed(4096, {
     4: b"5aefdbbc0a7be8e7    ".hex(), 24: b"Linux".ljust(40).hex(), 64: b"1.0     ".hex(), 76: "0b", 77: "05",
     78: "0100", 80: "00040100", 92: "00090000", 111: "01", 259: "03", 261: "04", 320: "0a00", 342: "0a", 343: "1f",
