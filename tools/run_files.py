@@ -7,9 +7,9 @@ from capsule_text import line_of as command_line, say_entry
 from nvmet_formats import (
     ACTIVE_LIST_ENTRIES, ANA_HEADER_BYTES, ANA_LOG, ANA_STATES, ANSWERED, ANSWERS, CHANGED_NAMESPACES_LOG,
     CNS_ACTIVE_LIST, CNS_CONTROLLER, CNS_DESCRIPTORS, CNS_NAMESPACE, CONTROLLER_FIELDS, ENTRY_FIELDS, KINDS,
-    NAMESPACE_FIELDS, POLL, SUBMIT, Bad, bits_of, command_of, read_ana_page, read_capsules, read_descriptors,
-    read_event, read_fields, read_file, read_journal, read_lba_formats, read_nsid_list, read_plan, read_responses,
-    read_status, serves_admin, text_lines)
+    NAMESPACE_FIELDS, POLL, SUBMIT, WAITING, Bad, bits_of, command_of, read_ana_page, read_capsules,
+    read_descriptors, read_event, read_fields, read_file, read_journal, read_lba_formats, read_nsid_list, read_plan,
+    read_responses, read_status, serves_admin, text_lines)
 
 EDITOR = "editor"
 PAGE_WIDTH = 10
@@ -17,8 +17,9 @@ ALL_NAMESPACES = 0xFFFFFFFF
 
 # A call of a run. `caller` is the editor or a queue, `queue` its number from 1, `record` that of a queue and `edit` the
 # journal's line of the editor. `command` is the command's name, `cid` its command identifier, `text` the command with
-# its fields or the script's line, `page` what the data are: (kind, offset, NSID), or None.
-Call = namedtuple("Call", "place caller queue record edit command cid text page")
+# its fields or the script's line, `page` what the data are: (kind, offset, NSID), or None. `request` is the event
+# request that a poll's event answered: its place and its capsule's number, or None.
+Call = namedtuple("Call", "place caller queue record edit command cid text page request")
 Run = namedtuple("Run", "plan places calls queues")
 
 
@@ -74,12 +75,12 @@ def fault_of_places(run):
 def edit_call(edit, script):
     """A call of the editor, with the script's line where there is one."""
     text = script[edit.line - 1] if 0 < edit.line <= len(script) else None
-    return Call(edit.place, EDITOR, 0, None, edit, edit.what, None, text, None)
+    return Call(edit.place, EDITOR, 0, None, edit, edit.what, None, text, None, None)
 
 
 def queue_calls(caller, number, capsules, records, block_size=512):
     """The calls of one queue."""
-    admin, said, calls = serves_admin(capsules), {}, []
+    admin, said, waiting, calls = serves_admin(capsules), {}, {}, []
     for record in records:
         capsule = capsules[record.number] if record.kind != POLL and record.number < len(capsules) else None
         if capsule and record.number not in said:
@@ -87,7 +88,11 @@ def queue_calls(caller, number, capsules, records, block_size=512):
         command, text = said[record.number] if capsule else (None, None)
         page = page_of(capsule.entry, admin) if capsule and record.data and record.kind == SUBMIT else None
         cid = bits_of(capsule.entry, ENTRY_FIELDS["cid"]) if capsule else None
-        calls.append(Call(record.place, caller, number, record, None, command, cid, text, page))
+        if record.kind == SUBMIT and record.answer == WAITING:
+            waiting[cid] = (record.place, record.number)
+        is_event = record.kind == POLL and record.answer == ANSWERED
+        request = waiting.pop(record.completion.cid, None) if is_event else None
+        calls.append(Call(record.place, caller, number, record, None, command, cid, text, page, request))
     return calls
 
 
@@ -120,8 +125,10 @@ def line_of(call):
         end = "the drain ended" if call.edit.what == "done" else call.edit.answer
         return "%-7s  line %d  %s%s" % (call.edit.what, call.edit.line, call.text + "  " if call.text else "", end)
     text = ("after %d" if call.record.kind == POLL else "#%d") % call.record.number
-    return "%-7s  %s  %s%s" % (
-        KINDS[call.record.kind], text, call.text + "  " if call.text else "", answer_text(call.record, call.command))
+    answer = answer_text(call.record, call.command)
+    if call.request:
+        answer += ", answers the request #%d of place %d" % (call.request[1], call.request[0])
+    return "%-7s  %s  %s%s" % (KINDS[call.record.kind], text, call.text + "  " if call.text else "", answer)
 
 
 def answer_text(record, command=None):
@@ -251,6 +258,7 @@ def as_object(call):
         base["completion"] = completion_object(record.completion, call.command)
     if record.answer == ANSWERED and record.kind == POLL:
         base["event"] = dict(read_event(record.completion.result)._asdict())
+        base["request"] = {"place": call.request[0], "number": call.request[1]} if call.request else None
     if call.page:
         base["page"] = page_object(call)
     if record.data:

@@ -69,18 +69,6 @@ def drains_of(calls):
     return drains
 
 
-def answers_of(calls):
-    """Each poll with an event beside the request that it answered: (poll, request or None)."""
-    waiting, answers = {}, []
-    for call in calls:
-        record = call.record
-        if record.kind == SUBMIT and record.answer == WAITING:
-            waiting[call.cid] = call
-        elif record.kind == POLL and record.answer == ANSWERED:
-            answers.append((call, waiting.pop(record.completion.cid, None)))
-    return answers
-
-
 # The whole
 
 class Sheet:
@@ -220,12 +208,12 @@ def draw_queue(sheet, top, calls):
     """Bars from submit to execute, and a mark for each other call."""
     y = top + 30
     sheet.add(line(LEFT, y, LEFT + sheet.width, y, RAIL))
-    for poll, request in answers_of(calls):
-        if request:
-            start, end = sheet.x(request.place), sheet.x(poll.place)
+    for poll in calls:
+        if poll.request:
+            start, end = sheet.x(poll.request[0]), sheet.x(poll.place)
             path = "M%s %sC%s %s %s %s %s %s" % tuple(short(v) for v in (
                 start, y + 5, start, y + 32, end, y + 32, end, y + 6))
-            sheet.add(tag("path", "the event answers the request of place %d" % request.place, d=path, fill="none",
+            sheet.add(tag("path", line_of(poll), d=path, fill="none",
                           stroke=NOTICE, stroke_width=1.3, stroke_dasharray="4 2"))
     for span in spans_of(calls):
         draw_span(sheet, y, span)

@@ -65,11 +65,15 @@ class Pictures(unittest.TestCase):
     def test_events_answer_their_requests(self):
         make_run(".", commands=60, queues=4, disables=12)
         run, root, titles = self.draw()
-        answers = run_picture.answers_of([call for call in run.calls if call.queue == 1])
+        answers = [call for call in run.calls if call.request]
         self.assertTrue(answers)
-        for poll, request in answers:
-            self.assertEqual(poll.record.completion.cid, request.cid)
-            self.assertIn("the event answers the request of place %d" % request.place, titles)
+        places = {call.place: call for call in run.calls}
+        for poll in answers:
+            request = places[poll.request[0]]
+            self.assertEqual((request.command, request.cid), ("event-request", poll.record.completion.cid))
+            self.assertTrue(any("place %d: poll" % poll.place in title
+                                and "answers the request #%d of place %d" % (poll.request[1], request.place) in title
+                                for title in titles))
 
     def test_ten_thousand_calls_are_bands(self):
         places = make_run(".", commands=1100, queues=5, disables=120)
