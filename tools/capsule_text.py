@@ -393,16 +393,18 @@ def raw_words(entry, data):
 
 def with_usual(words, command, entry, position, block_size):
     """The words with flags, command identifier and length where they aren't as usual."""
-    for name in ("flags", "cid", "length"):
-        value = bits_of(entry, ENTRY_FIELDS[name])
+    value = lambda name, entry: bits_of(entry, ENTRY_FIELDS[name])
+    try:
+        built = capsule_of(command, words, 0, position, block_size)[0]
+    except Bad:
+        # the data don't have the usual length
+        words = dict(words, length=shown("length", value("length", entry)))
         try:
             built = capsule_of(command, words, 0, position, block_size)[0]
-            usual = bits_of(built, ENTRY_FIELDS[name])
         except Bad:
-            usual = None
-        if usual != value:
-            words = dict(words, **{name: shown(name, value)})
-    return words
+            return words
+    unusual = [name for name in ("flags", "cid", "length") if value(name, built) != value(name, entry)]
+    return dict(words, **{name: shown(name, value(name, entry)) for name in unusual})
 
 
 def say_entry(entry, data, position, block_size=512, admin=False):

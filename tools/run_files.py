@@ -9,7 +9,7 @@ from nvmet_formats import (
     CNS_ACTIVE_LIST, CNS_CONTROLLER, CNS_DESCRIPTORS, CNS_NAMESPACE, CONTROLLER_FIELDS, ENTRY_FIELDS, KINDS,
     NAMESPACE_FIELDS, POLL, SUBMIT, WAITING, Bad, bits_of, command_of, read_ana_page, read_capsules,
     read_descriptors, read_event, read_fields, read_file, read_journal, read_lba_formats, read_nsid_list, read_plan,
-    read_responses, read_status, serves_admin, text_lines)
+    read_responses, read_status, serves_admin, text_lines, with_bits)
 
 EDITOR = "editor"
 PAGE_WIDTH = 10
@@ -80,12 +80,10 @@ def edit_call(edit, script):
 
 def queue_calls(caller, number, capsules, records, block_size=512):
     """The calls of one queue."""
-    admin, said, waiting, calls = serves_admin(capsules), {}, {}, []
+    admin, known, waiting, calls = serves_admin(capsules), {}, {}, []
     for record in records:
         capsule = capsules[record.number] if record.kind != POLL and record.number < len(capsules) else None
-        if capsule and record.number not in said:
-            said[record.number] = say_briefly(capsule, record.number, block_size, admin)
-        command, text = said[record.number] if capsule else (None, None)
+        command, text = say_briefly(capsule, block_size, admin, known) if capsule else (None, None)
         page = page_of(capsule.entry, admin) if capsule and record.data and record.kind == SUBMIT else None
         cid = bits_of(capsule.entry, ENTRY_FIELDS["cid"]) if capsule else None
         if record.kind == SUBMIT and record.answer == WAITING:
@@ -96,11 +94,14 @@ def queue_calls(caller, number, capsules, records, block_size=512):
     return calls
 
 
-def say_briefly(capsule, position, block_size, admin):
-    """A command's name, and its line without its data and its usual command identifier."""
-    name, words = say_entry(capsule.entry, capsule.data, position, block_size, admin)
-    words = {key: value for key, value in words.items() if key not in ("data", "cid")}
-    return name, command_line(name, words)
+def say_briefly(capsule, block_size, admin, known):
+    """A command's name, and its line without its data and its command identifier. `known` keeps what was said."""
+    entry = with_bits(capsule.entry, ENTRY_FIELDS["cid"], 0)
+    if (entry, capsule.data) not in known:
+        name, words = say_entry(entry, capsule.data, 0, block_size, admin)
+        words.pop("data", None)
+        known[entry, capsule.data] = name, command_line(name, words)
+    return known[entry, capsule.data]
 
 
 def page_of(entry, admin):
