@@ -21,8 +21,9 @@ READ, WRITE, ZEROES, FLUSH, ADMIN, FABRIC = "read", "write", "write-zeroes", "fl
 LETTERS = {READ: "R", WRITE: "W", ZEROES: "Z", FLUSH: "F", "identify": "I", "get-log": "L", "set-features": "S",
            "get-features": "G", "event-request": "E", "abort": "A", "keep-alive": "K", "connect": "C",
            "property-set": "P", "property-get": "P", "raw": "?"}
-LETTERS_TOLD = ("R1 a read of namespace 1, W write, Z write-zeroes, F flush, I identify, L get-log, S set-features, "
-                "G get-features, E event-request, A abort, K keep-alive, C connect, P property, NS and ANA notices")
+LETTERS_TOLD = ("A letter and the namespace: R read, W write, Z write-zeroes, F flush. I identify, L get-log, "
+                "S set-features, G get-features, E event-request, A abort, K keep-alive, C connect, P property. "
+                "NS and ANA are notices.")
 COLOURS = {READ: "#3b7dd8", WRITE: "#e07b39", ZEROES: "#8d6e63", FLUSH: "#26a69a", ADMIN: "#7f8c9b",
            FABRIC: VIOLET, "refused": RED}
 
