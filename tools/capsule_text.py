@@ -312,7 +312,7 @@ def shown(name, value):
     """A number as the text has it: decimal where people count, else hexadecimal."""
     counted = ("nsid", "slba", "blocks", "length", "cid", "qid", "sqsize", "bytes", "sqid", "command", "rgo", "rae",
                "offset", "size", "kato", "recfmt")
-    if value < 10 or name in counted and not (name == "nsid" and value > 1 << 16):
+    if value < 10 or name in counted and value < 1 << (16 if name == "nsid" else 32):
         return str(value)
     return "%Xh" % value if "%X" % value < "A" else "0%Xh" % value
 

@@ -175,9 +175,11 @@ def command_of(entry, admin=False):
 
 
 def serves_admin(capsules):
-    """Whether a queue file is an admin queue's: its first Connect has QID 0."""
+    """Whether a queue file is an admin queue's: of its leading fabrics commands the first Connect has QID 0."""
     for capsule in capsules:
         command = command_of(capsule.entry)
+        if bits_of(capsule.entry, ENTRY_FIELDS["opcode"]) != FABRICS:
+            return False
         if command and command.name == "connect":
             return bits_of(capsule.entry, (336, 16)) == 0
     return False

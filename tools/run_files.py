@@ -40,7 +40,7 @@ def read_any(name, queue=None):
         places, edits = inside(name, read_journal)
         return Run(None, places, [edit_call(edit, []) for edit in edits], [])
     capsules = inside(queue, read_capsules) if queue else []
-    calls = queue_calls("queue", 1, capsules, inside(name, read_responses))
+    calls = queue_calls("queue", 1, capsules, inside(name, read_responses), serves_admin(capsules))
     return Run(None, len(calls), calls, ["queue"])
 
 
@@ -59,7 +59,8 @@ def read_run(name):
         queues.append(caller)
         capsules = inside(line.capsules, read_capsules)
         records = inside(line.responses, read_responses)
-        calls += queue_calls(caller, number, capsules, records, block_size)
+        admin = not plan.simple and serves_admin(capsules)
+        calls += queue_calls(caller, number, capsules, records, admin, block_size)
     calls.sort(key=lambda call: call.place)
     return Run(plan, max(places, len(calls)), calls, queues)
 
@@ -78,9 +79,9 @@ def edit_call(edit, script):
     return Call(edit.place, EDITOR, 0, None, edit, edit.what, None, text, None, None)
 
 
-def queue_calls(caller, number, capsules, records, block_size=512):
+def queue_calls(caller, number, capsules, records, admin, block_size=512):
     """The calls of one queue."""
-    admin, known, waiting, calls = serves_admin(capsules), {}, {}, []
+    known, waiting, calls = {}, {}, []
     for record in records:
         capsule = capsules[record.number] if record.kind != POLL and record.number < len(capsules) else None
         command, text = say_briefly(capsule, block_size, admin, known) if capsule else (None, None)

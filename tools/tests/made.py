@@ -88,7 +88,10 @@ class Target:
 
     def write(self):
         """Writes the plan's files into the folder, and answers the plan's name."""
-        put = lambda name, blob: open(os.path.join(self.folder, name), "wb").write(blob)
+        def put(name, blob):
+            with open(os.path.join(self.folder, name), "wb") as file:
+                file.write(blob)
+
         plan = PLAN
         for queue, blob in zip(self.queues, self.blobs):
             plan += "queue 1 q%d r%d\n" % (queue.number, queue.number)

@@ -193,7 +193,12 @@ class RoundTrip(unittest.TestCase):
         self.assertTrue(names)
         for name in names:
             with self.subTest(name=name), open(name, "rb") as file:
-                self.again(file.read())
+                blob = file.read()
+                if name.endswith(".txt"):
+                    with open(name[:-len(".txt")], "rb") as queue:
+                        self.assertEqual(capsule_text.build(blob.decode()), queue.read())
+                else:
+                    self.again(blob)
 
     def test_a_thousand_random_files(self):
         draw = random.Random(20)

@@ -153,7 +153,7 @@ class Pages(unittest.TestCase):
         admin = "connect subsys=a\n"
         capsules = read_capsules(capsule_text.build(admin + line))
         records = read_responses(record(0, 1, 1, 1, data=data))
-        return run_files.queue_calls("q", 1, capsules, records)[0]
+        return run_files.queue_calls("q", 1, capsules, records, True)[0]
 
     def test_each_page(self):
         for line, data, lines, whole in PAGES:
