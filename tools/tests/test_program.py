@@ -1,0 +1,56 @@
+"""The program itself, where it is built: the README's ten lines, and the statuses of examples/statuses."""
+
+import json
+import os
+import shutil
+import subprocess
+import tempfile
+import unittest
+
+from support import REPOSITORY, run_tool
+
+PROGRAM = os.path.join(REPOSITORY, "crates", "nvmetd", "out", "nvmetd")
+NAMES = {"success": "Success"}
+
+
+def indented(text, first):
+    """The indented lines of a page from the one that begins so, up to the next line that isn't indented."""
+    rows = text.splitlines()
+    start = next(at for at, row in enumerate(rows) if row.startswith("    " + first))
+    end = next(at for at in range(start, len(rows)) if rows[at] and not rows[at].startswith("    "))
+    return [row[4:] for row in rows[start:end] if row]
+
+
+@unittest.skipUnless(os.path.exists(PROGRAM), "nvmetd isn't built yet")
+class Program(unittest.TestCase):
+    def setUp(self):
+        self.folder = tempfile.TemporaryDirectory()
+        self.addCleanup(self.folder.cleanup)
+
+    def test_the_ten_lines_of_the_readme(self):
+        with open(os.path.join(REPOSITORY, "README.md"), encoding="utf-8") as file:
+            page = file.read()
+        lines = indented(page, "export PATH")
+        self.assertEqual(len(lines), 10)
+        done = subprocess.run(["/bin/bash", "-e"], input="\n".join(lines), cwd=REPOSITORY, text=True, check=True,
+                              stdout=subprocess.PIPE, env=dict(os.environ, TMPDIR=self.folder.name))
+        self.assertEqual(done.stdout.splitlines()[7:], indented(page, "0  q1  submit"))
+        made = os.path.join(self.folder.name, os.listdir(self.folder.name)[0])
+        self.assertEqual(sorted(os.listdir(made)), ["plan", "q1", "q1.txt", "r1", "run.svg"])
+
+    def test_the_statuses(self):
+        example = os.path.join(REPOSITORY, "examples", "statuses")
+        for name in os.listdir(example):
+            shutil.copy(os.path.join(example, name), self.folder.name)
+        subprocess.run([PROGRAM, "run", "plan"], cwd=self.folder.name, check=True, stdout=subprocess.DEVNULL)
+        with open(os.path.join(example, "q1.txt"), encoding="ascii") as file:
+            wanted = [row.split("# ")[1].split(":")[0].split(",")[0].strip()
+                      for row in file if not row.startswith(("#", "block-size"))]
+        _, out, _ = run_tool(self.folder.name, "records", "plan", "--json")
+        answers = [json.loads(row) for row in out.splitlines()]
+        found = [one["completion"]["status"]["name"] for one in answers if one["answer"] == "answered"]
+        self.assertEqual(found, [NAMES.get(name, name) for name in wanted])
+
+
+if __name__ == "__main__":
+    unittest.main()
