@@ -8,8 +8,8 @@ use Rattle.plan_files.specs.declared.plan.PlanError.{PlanError}
 use Rattle.plan_files.specs.declared.limits.What.TheVariants.{Bytes}
 use Rattle.plan_files.specs.Plans.{IsPlan}
 use Rattle.plan_files.specs.PlanReading.{Fails, plan_in}
-use Rattle.plan_files.specs.Fronts as queue
-use Rattle.plan_files.specs.Fronts.{capsules_of}
+use Rattle.plan_files.specs.CapsuleReading as queue
+use Rattle.plan_files.specs.CapsuleReading.{capsules_of}
 use Rattle.plan_files.specs.declared.plan.PlanError.TheVariants as plans
 use Rattle.plan_files.specs.declared.capsules.CapsuleError.{CapsuleError}
 use Rattle.plan_files.specs.declared.capsules.CapsuleError.TheVariants as queues
@@ -20,6 +20,7 @@ use Rattle.std.proofs.lemmas.Slice.Eq.{bytes_eq-Decides}
 use Rattle.plan_files.specs.declared.outside.FileError.{FileError}
 use Rattle.plan_files.specs.declared.outside.FileError.TheVariants as files
 use Rattle.plan_files.specs.declared.outside.WriteError.TheVariants as writes
+use Rattle.plan_files.specs.Binding.{◌>>=◌}
 use Rattle.plan_files.specs.Outside.{WriteGives, Rose, rose}
 use Rattle.nvmet_run.specs.declared.status.FileNo.{FileNo}
 use Rattle.nvmet_run.specs.declared.status.TheConstants.{PLAN}
@@ -27,7 +28,7 @@ use Rattle.nvmet_run.specs.declared.status.Fault.{Fault}
 use Rattle.nvmet_run.specs.declared.status.Fault.TheVariants as fault
 use Rattle.nvmet_run.specs.Headline.{Told, HoldsOf, ReadsPlan, IsRunnable}
 use Rattle.nvmet_run.specs.Outsides.{FilesView, FailedCall, Kept}
-use Rattle.nvmet_run.specs.Reading.{◌>>=◌, content_of, plan_error, if_simple, simple_plan_in, capsule_error, capsules_in_bytes}
+use Rattle.nvmet_run.specs.Reading.{content_of, plan_error, if_simple, simple_plan_in, capsule_error, capsules_in_bytes}
 use Rattle.nvmet_run.specs.Refusals.{FileRefused, ReadsSo, Refuses, Gives}
 use Rattle.nvmet_run.proofs.Runnable.{runnable}
 

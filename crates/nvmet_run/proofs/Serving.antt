@@ -7,7 +7,8 @@ use Rattle.plan_files.specs.declared.outside.SinkFault.{SinkFault}
 use Rattle.plan_files.specs.declared.capsules.CapsuleError.{CapsuleError}
 use Rattle.plan_files.specs.declared.capsules.CapsuleError.TheVariants as queues
 use Rattle.plan_files.specs.Capsules.{Capsule}
-use Rattle.plan_files.specs.Fronts.{capsules_of}
+use Rattle.plan_files.specs.CapsuleReading.{capsules_of}
+use Rattle.plan_files.specs.Binding.{◌>>=◌}
 use Rattle.plan_files.specs.Outside.{LastCall, Rose, SinkTakes}
 use Rattle.mem_bdev.specs.declared.disk.DiskLine.{DiskLine}
 use Rattle.nvmet_run.specs.declared.status.FileNo.{FileNo}
@@ -21,7 +22,7 @@ use Rattle.nvmet_run.specs.Codes.{file_of}
 use Rattle.nvmet_run.specs.Texts.{line_of}
 use Rattle.nvmet_run.specs.Headline.{Told, HoldsNow, KeptBut, IsWritten, ReadsPlan, IsSimpleOf}
 use Rattle.nvmet_run.specs.Outsides.{FilesView, SinkView, Outside, files_view, FailedCall, Kept, Said, FailedPut}
-use Rattle.nvmet_run.specs.Reading.{◌>>=◌, content_of, or_fault, capsules_in_bytes, plan_of_file, capsules_of_file}
+use Rattle.nvmet_run.specs.Reading.{content_of, or_fault, capsules_in_bytes, plan_of_file, capsules_of_file}
 use Rattle.nvmet_run.specs.Refusals.{FileRefused, WriteRefused, Unread, QueueUnread, QueueUnwritten, ServingRefused, Unsaid, Refusal, name_by}
 
 -- a count that rose rose from an earlier one too

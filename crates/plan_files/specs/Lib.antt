@@ -8,7 +8,9 @@ pub mod Plans
 pub mod PlanReading
 pub mod Rooms
 pub mod Capsules
-pub mod Fronts
+pub mod Binding
+pub mod CapsuleReading
+pub mod CapsuleFaults
 pub mod Records
 pub mod Stored
 pub mod Adapters

@@ -12,6 +12,7 @@ mod capsules;
 mod faults;
 mod host;
 mod items;
+pub mod law;
 mod limits;
 mod line_items;
 mod memory;
