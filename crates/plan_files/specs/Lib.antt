@@ -1,5 +1,6 @@
 pub mod Outside
 pub mod Kept
+pub mod Pieces
 pub mod Words
 pub mod Lines
 pub mod Spelling

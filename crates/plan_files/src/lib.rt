@@ -17,6 +17,7 @@ mod limits;
 mod line_items;
 mod memory;
 mod outside;
+mod pieces;
 mod plan;
 mod records;
 #[cfg(test)]
@@ -31,5 +32,6 @@ pub use items::{DiskLines, Item, Plan, QueueLine, QueueLines};
 pub use limits::What;
 pub use memory::{MemFiles, MemSink};
 pub use outside::{FileError, Files, Gate, OpenGate, Point, Sink, SinkFault, WriteError};
+pub use pieces::{read_content, write_pieces};
 pub use plan::{MAX_ALL_DISK_BYTES, MAX_DISK_BYTES, MAX_DISKS, MAX_QUEUES, PlanError, read_plan};
 pub use records::{Record, put_record, write_record};
