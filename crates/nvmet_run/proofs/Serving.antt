@@ -7,7 +7,8 @@ use Rattle.plan_files.specs.declared.outside.SinkFault.{SinkFault}
 use Rattle.plan_files.specs.declared.capsules.CapsuleError.{CapsuleError}
 use Rattle.plan_files.specs.declared.capsules.CapsuleError.TheVariants as queues
 use Rattle.plan_files.specs.Capsules.{Capsule}
-use Rattle.plan_files.specs.Fronts.{capsules_of}
+use Rattle.plan_files.specs.CapsuleReading.{capsules_of}
+use Rattle.plan_files.specs.Binding.{◌>>=◌}
 use Rattle.plan_files.specs.Outside.{LastCall, Rose, SinkTakes}
 use Rattle.mem_bdev.specs.declared.disk.DiskLine.{DiskLine}
 use Rattle.nvmet_run.specs.declared.status.FileNo.{FileNo}
@@ -19,9 +20,9 @@ use Rattle.plan_files.specs.declared.limits.What.TheVariants.{Bytes}
 use Rattle.nvmet_run.specs.Printing.{summary}
 use Rattle.nvmet_run.specs.Codes.{file_of}
 use Rattle.nvmet_run.specs.Texts.{line_of}
-use Rattle.nvmet_run.specs.Headline.{Told, KeptBut, IsWritten, ReadsPlan, IsSimpleOf}
+use Rattle.nvmet_run.specs.Headline.{Told, HoldsNow, KeptBut, IsWritten, ReadsPlan, IsSimpleOf}
 use Rattle.nvmet_run.specs.Outsides.{FilesView, SinkView, Outside, files_view, FailedCall, Kept, Said, FailedPut}
-use Rattle.nvmet_run.specs.Reading.{◌>>=◌, content_of, or_fault, capsules_in_bytes, plan_of_file, capsules_of_file}
+use Rattle.nvmet_run.specs.Reading.{content_of, or_fault, capsules_in_bytes, plan_of_file, capsules_of_file}
 use Rattle.nvmet_run.specs.Refusals.{FileRefused, WriteRefused, Unread, QueueUnread, QueueUnwritten, ServingRefused, Unsaid, Refusal, name_by}
 
 -- a count that rose rose from an earlier one too
@@ -32,18 +33,22 @@ failed_since : (wrote : _) (name : List ℕ) (before mid after : FilesView) → 
 failed_since wrote name before mid after le f = record { last = f.last; rose = rose_since before.faults mid.faults after.faults le f.rose }
 
 -- all names but one were kept
-pub kept_but : (before mid after : Told) (q : QueueLine) → mid ≡ before → ((other : List ℕ) → other ≢ q.responses → after other ≡ mid other) → KeptBut before after (q ∷ [])
-kept_but before mid after q same others name differ = others name differ.0 ∙ ap (λ told. told name) same
+pub kept_but : (before mid after : Told) (q : QueueLine) → mid ≡ before → ((other : List ℕ) → other ≢ q.responses → after.holds other ≡ mid.holds other) → KeptBut before after (q ∷ [])
+kept_but before mid after q same others name differ = others name differ.0 ∙ ap (λ (told : Told). told.holds name) same
+
+-- what was written after names were only read
+pub written_since : (before mid after : Told) (name bytes : List ℕ) → mid ≡ before → HoldsNow mid after name bytes → HoldsNow before after name bytes
+written_since before mid after name bytes same holds = subst (λ (told : Told). HoldsNow told after name bytes) same holds
 
 -- the capsule file was not read
 pub unread_queue : (before after : Outside) (name : List ℕ) (plan : Plan) (d : DiskLine) (q : QueueLine) (f : Fault) → IsSimpleOf plan d q → FileRefused CAPSULES q.capsules capsules_of_file before.files after.files f
     → after.files.told ≡ before.files.told → after.sink ≡ before.sink → ServingRefused before after name plan.queues f
 unread_queue before after name plan d q f simple refused same silent =
-    record { queue = q; queues_are = simple.queues; cause = inl (inl (record { refused = refused; kept = λ other. ap (λ told. told other) same; silent = silent })) }
+    record { queue = q; queues_are = simple.queues; cause = inl (inl (record { refused = refused; kept = λ other. ap (λ (told : Told). told.holds other) same; silent = silent })) }
 
 -- the response file was not written
 pub unwritten_queue : (before mid after : Outside) (name : List ℕ) (plan : Plan) (d : DiskLine) (q : QueueLine) (f : Fault) → IsSimpleOf plan d q → before.files.faults ≤ mid.files.faults → mid.files.told ≡ before.files.told
-    → ((other : List ℕ) → other ≢ q.responses → after.files.told other ≡ mid.files.told other) → WriteRefused q.responses mid.files after.files f → after.sink ≡ before.sink → ServingRefused before after name plan.queues f
+    → ((other : List ℕ) → other ≢ q.responses → after.files.told.holds other ≡ mid.files.told.holds other) → WriteRefused q.responses mid.files after.files f → after.sink ≡ before.sink → ServingRefused before after name plan.queues f
 unwritten_queue before mid after name plan d q (fault.WriteFault n) simple le same others w silent = record {
   queue = q;
   queues_are = simple.queues;
@@ -57,7 +62,7 @@ unwritten_queue before mid after name plan d q (fault.WriteFault n) simple le sa
 unwritten_queue before mid after name plan d q fault.Memory simple le same others w silent = record {
   queue = q;
   queues_are = simple.queues;
-  cause = inl (inl (record { refused = tt; kept = λ other. w other ∙ ap (λ told. told other) same; silent = silent }));
+  cause = inl (inl (record { refused = tt; kept = λ other. w other ∙ ap (λ (told : Told). told.holds other) same; silent = silent }));
 }
 unwritten_queue before mid after name plan d q (fault.Malformed n place) simple le same others w silent = absurd w
 unwritten_queue before mid after name plan d q (fault.Limit n what count) simple le same others w silent = absurd w
@@ -218,7 +223,7 @@ unsaid_refusal before mid after name named f is u same said =
         ordered = u.ordered;
         served = u.served;
         legal = u.legal;
-        written = subst (λ (v : FilesView). IsWritten v.told u.run) (sym same) u.written;
+        written = subst (λ (v : FilesView). IsWritten before.files.told v.told u.run) (sym same) u.written;
         kept = subst (λ (v : FilesView). KeptBut before.files.told v.told u.run.plan.queues) (sym same) u.kept;
         failed = failed_still before.sink mid.sink after.sink (summary u.run) u.failed nothing;
       },
@@ -242,8 +247,8 @@ refusal before mid after name plan f reads s same said =
 pub plan_refusal : (before after : Outside) (name : List ℕ) (f : Fault) → FileRefused PLAN name plan_of_file before.files after.files f → after.files.told ≡ before.files.told
     → Said before.sink after.sink (line_of name f) → Refusal before after name f
 unfolding line_of
-plan_refusal before after name (fault.Malformed n place) r same said = record { file = name; cause = inl (refl, r); kept = λ other. ap (λ told. told other) same; said = said }
-plan_refusal before after name (fault.Limit n what count) r same said = record { file = name; cause = inl (refl, r); kept = λ other. ap (λ told. told other) same; said = said }
-plan_refusal before after name (fault.ReadFault n) r same said = record { file = name; cause = inl (refl, r); kept = λ other. ap (λ told. told other) same; said = said }
+plan_refusal before after name (fault.Malformed n place) r same said = record { file = name; cause = inl (refl, r); kept = λ other. ap (λ (told : Told). told.holds other) same; said = said }
+plan_refusal before after name (fault.Limit n what count) r same said = record { file = name; cause = inl (refl, r); kept = λ other. ap (λ (told : Told). told.holds other) same; said = said }
+plan_refusal before after name (fault.ReadFault n) r same said = record { file = name; cause = inl (refl, r); kept = λ other. ap (λ (told : Told). told.holds other) same; said = said }
 plan_refusal before after name (fault.WriteFault n) r same said = absurd r
-plan_refusal before after name fault.Memory r same said = record { kept = λ other. ap (λ told. told other) same; said = said }
+plan_refusal before after name fault.Memory r same said = record { kept = λ other. ap (λ (told : Told). told.holds other) same; said = said }

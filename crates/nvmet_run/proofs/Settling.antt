@@ -16,9 +16,8 @@ use Rattle.nvmet_run.specs.Reading.{plan_of_file, capsules_of_file}
 use Rattle.nvmet_run.specs.Refusals.{QueuesTell, FilesTell, ReadsSo, Refusal}
 
 -- what is told is what was read
-same_bytes : (o : Option (List ℕ)) (a b : List ℕ) → o ≡ Some a → HoldsOf o b → a ≡ b
-same_bytes None a b e h = absurd cc
-same_bytes (Some x) a b e h = let is : x ≡ a = cc in sym is ∙ h
+same_bytes : (told : Told) (name a b : List ℕ) → told.holds name ≡ Some a → HoldsOf told name b → a ≡ b
+same_bytes told name a b e h = rw e at h.where_told
 
 -- capsules that were read have no fault
 queues_read : (told : Told) (queues : List QueueLine) (files : List (List Capsule)) (first : Option Fault) → AreRead told queues files → QueuesTell told queues first → first ≡ None
@@ -26,14 +25,14 @@ queues_read told [] [] first r t = t
 queues_read told [] (file ∷ files) first r t = absurd r
 queues_read told (q ∷ queues) [] first r t = absurd r
 queues_read told (q ∷ queues) (file ∷ files) first r t =
-    let is : t.0 ≡ r.0.bytes = same_bytes (told q.capsules) t.0 r.0.bytes t.1 r.0.held in
+    let is : t.0 ≡ r.0.bytes = same_bytes told q.capsules t.0 r.0.bytes t.1 r.0.held in
     let rest = rw (is, r.0.exact) at t.2 in
     queues_read told queues files first r.1 rest
 
 -- a plan that was read leaves it to its queues
 plan_read : (told : Told) (name : List ℕ) (plan : Plan) (first : Option Fault) → ReadsPlan told name plan → FilesTell told name first → QueuesTell told plan.queues first
 plan_read told name plan first r t =
-    let is : t.0 ≡ r.bytes = same_bytes (told name) t.0 r.bytes t.1 r.held in
+    let is : t.0 ≡ r.bytes = same_bytes told name t.0 r.bytes t.1 r.held in
     rw (is, r.exact) at t.2
 
 -- files that were all read have no fault
@@ -43,7 +42,7 @@ none_told told name run first r t = queues_read told run.plan.queues run.files f
 -- a fault of the plan is the first
 plan_first : (told : Told) (name : List ℕ) (f : Fault) (first : Option Fault) → ReadsSo told name plan_of_file (Err f) → FilesTell told name first → first ≡ Some f
 plan_first told name f first r t =
-    let is : t.0 ≡ r.bytes = same_bytes (told name) t.0 r.bytes t.1 r.held in
+    let is : t.0 ≡ r.bytes = same_bytes told name t.0 r.bytes t.1 r.held in
     rw (is, r.is) at t.2
 
 -- a fault of the queue file is the first where the plan has none
@@ -51,7 +50,7 @@ queue_first : (told : Told) (name : List ℕ) (plan : Plan) (q : QueueLine) (f :
     → first ≡ Some f
 queue_first told name plan q f first reads queues r tells =
     let t = rw queues at (plan_read told name plan first reads tells) in
-    let is : t.0 ≡ r.bytes = same_bytes (told q.capsules) t.0 r.bytes t.1 r.held in
+    let is : t.0 ≡ r.bytes = same_bytes told q.capsules t.0 r.bytes t.1 r.held in
     rw (is, r.is) at t.2
 
 -- what a run that ended by a fault says of the first fault

@@ -15,7 +15,7 @@ use Rattle.nvmet_run.specs.Served.{ServesFile}
 use Rattle.nvmet_run.specs.Printing.{summary, summary_of, all_placed, submits_in, executes_in, refusals_in, bytes_taken, bytes_given}
 use Rattle.nvmet_run.specs.Prints.{Prints}
 use Rattle.nvmet_run.specs.Goes.{Makes}
-use Rattle.nvmet_run.specs.Headline.{Told, HoldsOf, KeptBut, Took, ServedPlan, ReadsPlan, IsSimpleOf, Ran, alone}
+use Rattle.nvmet_run.specs.Headline.{Told, HoldsOf, HoldsNow, KeptBut, Took, ServedPlan, ReadsPlan, IsSimpleOf, Ran, alone}
 use Rattle.nvmet_run.specs.Reading.{capsules_of_file}
 use Rattle.nvmet_run.specs.Outsides.{Outside, FailedPut}
 use Rattle.nvmet_run.specs.Refusals.{Unsaid}
@@ -33,7 +33,7 @@ summary-is plan d file o h p =
     ap parts (all-placed plan d file h) ∙ rw (n, p.submitted, p.executed, p.refused, p.taken, p.given) refl
 
 pub plan_served : (told : Told) (plan : Plan) (d : DiskLine) (q : QueueLine) (bytes text : List ℕ) (file : List Capsule) (c0 c1 : program.Target) (o0 o1 : Output)
-    → HoldsOf (told q.capsules) bytes → AreCapsules bytes file → capsules_of_file bytes ≡ Ok file → StandsFor c0 (simple_start d) → Prints o0 [] → Makes (ServesFile 1 0 file) c0 o0 c1 o1
+    → HoldsOf told q.capsules bytes → AreCapsules bytes file → capsules_of_file bytes ≡ Ok file → StandsFor c0 (simple_start d) → Prints o0 [] → Makes (ServesFile 1 0 file) c0 o0 c1 o1
     → text ≡ summary_of o1.places o1.submitted o1.executed o1.refused o1.taken o1.given
     → ServedPlan told plan d q o1.records.items text
 plan_served told plan d q bytes text file c0 c1 o0 o1 held read exact st prints makes is =
@@ -56,7 +56,7 @@ ordered_alone plan d file h = record {
 
 pub ran : (told_before told_after : Told) (taken_before taken_after : Option (List ℕ)) (name : List ℕ) (plan : Plan) (d : DiskLine) (q : QueueLine) (records text : List ℕ)
     → ReadsPlan told_before name plan → IsSimpleOf plan d q → ServedPlan told_before plan d q records text
-    → HoldsOf (told_after q.responses) records → KeptBut told_before told_after (q ∷ []) → Took taken_before taken_after text
+    → HoldsNow told_before told_after q.responses records → KeptBut told_before told_after (q ∷ []) → Took taken_before taken_after text
     → Ran told_before told_after taken_before taken_after name
 ran told_before told_after taken_before taken_after name plan d q records text reads simple served written kept put =
     record {
@@ -69,7 +69,7 @@ ran told_before told_after taken_before taken_after name plan d q records text r
       ordered = ordered_alone plan d served.file served.history;
       served = record { queues = (served.served, tt); editor = refl };
       legal = served.legal;
-      written = rw simple.queues (subst (λ (x : List ℕ). HoldsOf (told_after q.responses) x) served.records_are written, tt);
+      written = rw simple.queues (subst (λ (x : List ℕ). HoldsNow told_before told_after q.responses x) served.records_are written, tt);
       kept = rw simple.queues kept;
       put = subst (λ (x : List ℕ). Took taken_before taken_after x) served.text_is put;
     }
@@ -77,7 +77,7 @@ ran told_before told_after taken_before taken_after name plan d q records text r
 -- the same where the sink did not take the summary
 pub unsaid : (before after : Outside) (name : List ℕ) (plan : Plan) (d : DiskLine) (q : QueueLine) (records text : List ℕ)
     → ReadsPlan before.files.told name plan → IsSimpleOf plan d q → ServedPlan before.files.told plan d q records text
-    → HoldsOf (after.files.told q.responses) records → KeptBut before.files.told after.files.told (q ∷ []) → FailedPut before.sink after.sink text
+    → HoldsNow before.files.told after.files.told q.responses records → KeptBut before.files.told after.files.told (q ∷ []) → FailedPut before.sink after.sink text
     → Unsaid before after name
 unsaid before after name plan d q records text reads simple served written kept failed =
     record {
@@ -90,7 +90,7 @@ unsaid before after name plan d q records text reads simple served written kept 
       ordered = ordered_alone plan d served.file served.history;
       served = record { queues = (served.served, tt); editor = refl };
       legal = served.legal;
-      written = rw simple.queues (subst (λ (x : List ℕ). HoldsOf (after.files.told q.responses) x) served.records_are written, tt);
+      written = rw simple.queues (subst (λ (x : List ℕ). HoldsNow before.files.told after.files.told q.responses x) served.records_are written, tt);
       kept = rw simple.queues kept;
       failed = subst (λ (x : List ℕ). FailedPut before.sink after.sink x) served.text_is failed;
     }

@@ -1,10 +1,11 @@
 -- What a run that ended well has done.
-use Rattle.std.specs.Prelude.{◌≡◌, ◌≢◌, ℕ, true, List, [], ◌∷◌, ◌++◌, Option, Some, None, IfSome, Ok, IsUtf8}
+use Rattle.std.specs.Prelude.{◌≡◌, ◌≢◌, ℕ, Bool, true, IsTrue, List, [], ◌∷◌, ◌++◌, Option, Some, None, IfSome, Ok, IsUtf8}
 use Rattle.std.specs.List.{AllByRecursion}
 use Rattle.mem_bdev.specs.Blocks.{IsShape}
 use Rattle.mem_bdev.specs.declared.disk.DiskLine.{DiskLine}
 use Rattle.plan_files.specs.declared.items.Plan.{Plan}
 use Rattle.plan_files.specs.declared.items.QueueLine.{QueueLine}
+use Rattle.plan_files.specs.Outside.{HoldsWritten}
 use Rattle.plan_files.specs.Plans.{IsPlan}
 use Rattle.plan_files.specs.Capsules.{Capsule, AreCapsules}
 use Rattle.seq_target.specs.Model.{Target, Entry, simple_start}
@@ -14,19 +15,25 @@ use Rattle.nvmet_run.specs.Served.{IsServed, ServesFile}
 use Rattle.nvmet_run.specs.Printing.{responses, summary}
 use Rattle.nvmet_run.specs.Reading.{plan_of_file, capsules_of_file}
 
--- what names hold, where that is told
-abbrev pub Told : Type 0
-Told = List ℕ → Option (List ℕ)
+-- What names hold, where that is told, and whether the files tell at all: then a name of which nothing is told isn't
+-- there.
+pub record Told : Type 0 where
+  pub tells : Bool
+  pub holds : List ℕ → Option (List ℕ)
 
--- where it is told what a name holds, it is this
-abbrev pub HoldsOf : Option (List ℕ) → List ℕ → Type 0
-HoldsOf told bytes = IfSome told (λ b. b ≡ bytes)
+abbrev pub told_by : Bool → (List ℕ → Option (List ℕ)) → Told
+told_by tells holds = record { tells = tells; holds = holds }
+
+-- a name holds these bytes, where that is told; where the files tell at all, it is there
+pub record HoldsOf (told : Told) (name bytes : List ℕ) : Type 0 where
+  pub where_told : IfSome (told.holds name) (λ b. b ≡ bytes)
+  pub there : IsTrue told.tells → told.holds name ≡ Some bytes
 
 -- ---- read
 -- the plan in the bytes of a name
 pub record ReadsPlan (told : Told) (name : List ℕ) (plan : Plan) : Type 0 where
   pub bytes : List ℕ
-  pub held : HoldsOf (told name) bytes
+  pub held : HoldsOf told name bytes
   pub read : IsPlan bytes plan
   pub exact : plan_of_file bytes ≡ Ok plan
 
@@ -44,7 +51,7 @@ pub record IsStart (told : Told) (plan : Plan) (start : Target) : Type 0 where
 -- the capsules in the bytes of a name
 pub record ReadsCapsules (told : Told) (name : List ℕ) (file : List Capsule) : Type 0 where
   pub bytes : List ℕ
-  pub held : HoldsOf (told name) bytes
+  pub held : HoldsOf told name bytes
   pub read : AreCapsules bytes file
   pub exact : capsules_of_file bytes ≡ Ok file
 
@@ -62,36 +69,44 @@ pub record IsRead (told : Told) (name : List ℕ) (run : Run) : Type 0 where
   pub files : AreRead told run.plan.queues run.files
 
 -- ---- written
--- the response files of the queues are the prints of these lists
-abbrev pub AreWritten : Told → List QueueLine → List (List Placed) → Type 0
-AreWritten told [] [] = Unit {0}
-AreWritten told [] (list ∷ lists) = ⊥
-AreWritten told (q ∷ queues) [] = ⊥
-AreWritten told (q ∷ queues) (list ∷ lists) = HoldsOf (told q.responses) (responses list) × AreWritten told queues lists
+-- a name holds exactly these bytes: it is there with them where it was told before or the files tell at all
+abbrev pub HoldsNow : Told → Told → List ℕ → List ℕ → Type 0
+HoldsNow before after name bytes = HoldsWritten before.tells (before.holds name) (after.holds name) bytes
 
-abbrev pub IsWritten : Told → Run → Type 0
-IsWritten told run = AreWritten told run.plan.queues run.queues
+-- the response files of the queues are the prints of these lists
+abbrev pub AreWritten : Told → Told → List QueueLine → List (List Placed) → Type 0
+AreWritten before after [] [] = Unit {0}
+AreWritten before after [] (list ∷ lists) = ⊥
+AreWritten before after (q ∷ queues) [] = ⊥
+AreWritten before after (q ∷ queues) (list ∷ lists) =
+    HoldsNow before after q.responses (responses list) × AreWritten before after queues lists
+
+abbrev pub IsWritten : Told → Told → Run → Type 0
+IsWritten before after run = AreWritten before after run.plan.queues run.queues
 
 -- names that are no response file of these queues hold what they held
 abbrev pub KeptBut : Told → Told → List QueueLine → Type 0
-KeptBut before after queues = (name : List ℕ) → AllByRecursion (λ q. name ≢ q.responses) queues → after name ≡ before name
+KeptBut before after queues =
+    (name : List ℕ) → AllByRecursion (λ q. name ≢ q.responses) queues → after.holds name ≡ before.holds name
 
--- where the sink tells what it took, it took this and nothing else
+-- where the sink tells what it took, it took exactly this after what it had taken
 abbrev pub Took : Option (List ℕ) → Option (List ℕ) → List ℕ → Type 0
 Took None new text = Unit {0}
-Took (Some old) new text = HoldsOf new (old ++ text)
+Took (Some old) new text = new ≡ Some (old ++ text)
 
 -- ---- the run theorem
 -- There is one run: its plan and capsules are what the files told when they were read; its callers' lists are ordered, and
 -- serve each capsule once and in its file's order; its history is a legal one of the sequential target; the response
--- files hold its prints and no other name was touched, and the sink took its summary and nothing else.
+-- files hold its prints and no other name was touched, and the sink took its summary and nothing else. Where files and
+-- sink tell, the plan and the capsule files are there, the response files are there with exactly the prints, and the
+-- text is exactly the one before and the summary.
 pub record Ran (told_before told_after : Told) (taken_before taken_after : Option (List ℕ)) (name : List ℕ) : Type 0 where
   pub run : Run
   pub read : IsRead told_before name run
   pub ordered : IsOrdered run
   pub served : IsServed run
   pub legal : IsLegalRun run
-  pub written : IsWritten told_after run
+  pub written : IsWritten told_before told_after run
   pub kept : KeptBut told_before told_after run.plan.queues
   pub put : Took taken_before taken_after (summary run)
 

@@ -37,7 +37,7 @@ pub record FailedCall (wrote : Bool) (name : List ℕ) (before after : FilesView
 
 -- each name holds what it held
 abbrev pub Kept : Told → Told → Type 0
-Kept before after = (name : List ℕ) → after name ≡ before name
+Kept before after = (name : List ℕ) → after.holds name ≡ before.holds name
 
 -- ---- the sink
 

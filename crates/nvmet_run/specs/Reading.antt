@@ -6,20 +6,16 @@ use Rattle.plan_files.specs.declared.plan.PlanError.TheVariants as plans
 use Rattle.plan_files.specs.declared.capsules.CapsuleError.{CapsuleError}
 use Rattle.plan_files.specs.declared.capsules.CapsuleError.TheVariants as queues
 use Rattle.plan_files.specs.declared.limits.What.TheVariants.{Bytes}
+use Rattle.plan_files.specs.Binding.{◌>>=◌}
 use Rattle.plan_files.specs.Lines.{lines_of}
 use Rattle.plan_files.specs.PlanReading.{plan_in}
 use Rattle.plan_files.specs.Capsules.{Capsule}
-use Rattle.plan_files.specs.Fronts.{capsules_of}
+use Rattle.plan_files.specs.CapsuleReading.{capsules_of}
 use Rattle.nvmet_run.specs.declared.status.At.TheVariants as at
 use Rattle.nvmet_run.specs.declared.status.FileNo.{FileNo}
 use Rattle.nvmet_run.specs.declared.status.TheConstants.{PLAN, CAPSULES}
 use Rattle.nvmet_run.specs.declared.status.Fault.{Fault}
 use Rattle.nvmet_run.specs.declared.status.Fault.TheVariants as fault
-
-infixl 10 ◌>>=◌
-abbrev pub ◌>>=◌ : {A B : Type 0} → Result A Fault → (A → Result B Fault) → Result B Fault
-(Ok x) >>= f = f x
-(Err e) >>= f = Err e
 
 -- the bytes of a file, where they are at most so many; the limit plus 1 is the count
 unfoldable pub content_of : ℕ → FileNo → List ℕ → Result (List ℕ) Fault

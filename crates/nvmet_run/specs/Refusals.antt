@@ -19,7 +19,7 @@ use Rattle.nvmet_run.specs.Headline.{Told, HoldsOf, ReadsPlan, IsRead, IsWritten
 -- some bytes, which the name holds where that is told, read so
 pub record ReadsSo {X : Type 0} (told : Told) (name : List ℕ) (read : List ℕ → Result X Fault) (result : Result X Fault) : Type 0 where
   pub bytes : List ℕ
-  pub held : HoldsOf (told name) bytes
+  pub held : HoldsOf told name bytes
   pub is : read bytes ≡ result
 
 -- Why reading this file ended: its first bad place or passed limit, exactly; a read that failed; or want of memory.
@@ -98,7 +98,7 @@ pub record Unsaid (before after : Outside) (name : List ℕ) : Type 0 where
   pub ordered : IsOrdered run
   pub served : IsServed run
   pub legal : IsLegalRun run
-  pub written : IsWritten after.files.told run
+  pub written : IsWritten before.files.told after.files.told run
   pub kept : KeptBut before.files.told after.files.told run.plan.queues
   pub failed : FailedPut before.sink after.sink (summary run)
 
@@ -146,7 +146,7 @@ FirstOf (Err f) first rest = first ≡ Some f
 -- the queue files, in the plan's order, tell their bytes, of which this is the first fault, or none
 abbrev pub QueuesTell : Told → List QueueLine → Option Fault → Type 0
 QueuesTell told [] first = first ≡ None
-QueuesTell told (q ∷ queues) first = (bytes : List ℕ) × (told q.capsules ≡ Some bytes) × FirstOf (capsules_of_file bytes) first (QueuesTell told queues first)
+QueuesTell told (q ∷ queues) first = (bytes : List ℕ) × (told.holds q.capsules ≡ Some bytes) × FirstOf (capsules_of_file bytes) first (QueuesTell told queues first)
 
 -- the same of the files that a plan names
 abbrev pub PlanTells : Told → Result Plan Fault → Option Fault → Type 0
@@ -156,4 +156,4 @@ PlanTells told (Err f) first = first ≡ Some f
 -- The files of a run are told, and this is their first bad place or passed limit in the order of reading, or none: first
 -- the plan of this name, then its queue files.
 abbrev pub FilesTell : Told → List ℕ → Option Fault → Type 0
-FilesTell told name first = (bytes : List ℕ) × (told name ≡ Some bytes) × PlanTells told (plan_of_file bytes) first
+FilesTell told name first = (bytes : List ℕ) × (told.holds name ≡ Some bytes) × PlanTells told (plan_of_file bytes) first

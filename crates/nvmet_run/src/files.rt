@@ -4,7 +4,7 @@ ghost use Rattle.std.specs.Option.{option_map_or};
 ghost use Rattle.plan_files.specs.Capsules.{AreCapsules, IsWholeIn, capsules_in};
 ghost use Rattle.plan_files.specs.Lines.{lines_of};
 ghost use Rattle.plan_files.specs.Plans.{IsPlan};
-ghost use Rattle.nvmet_run.specs.Headline.{HoldsOf, ReadsPlan, IsRunnable, Took};
+ghost use Rattle.nvmet_run.specs.Headline.{told_by, HoldsOf, HoldsNow, ReadsPlan, IsRunnable, Took};
 ghost use Rattle.nvmet_run.specs.Outsides.{files_view, sink_view, FailedPut};
 ghost use Rattle.nvmet_run.specs.Reading.{content_of, plan_error, capsule_error, simple_plan_in, plan_of_file, capsules_in_bytes, capsules_of_file};
 ghost use Rattle.nvmet_run.specs.Refusals.{FileRefused, Gives, Refuses, WriteRefused};
@@ -32,10 +32,10 @@ fn content_of<F: Files>(
     files: &mut F,
 ) -> Result<Vec<u8>, Fault>
     requires { limit ≤ 67108864 }
-    ensures told { IfOk result (λ v. HoldsOf (F.told files.old name.now) v.items) }
+    ensures told { IfOk result (λ v. HoldsOf (told_by (F.tells files.old) (F.told files.old)) name.now v.items) }
     ensures short { IfOk result (λ v. length v.items ≤ limit) }
-    ensures refused { IfErr result (λ f. FileRefused file name.now (content_of limit file) (files_view (F.told files.old) (F.faults files.old) (F.last files.old)) (files_view (F.told files.new) (F.faults files.new) (F.last files.new)) f) }
-    ensures same { F.told files.new ≡ F.told files.old }
+    ensures refused { IfErr result (λ f. FileRefused file name.now (content_of limit file) (files_view (told_by (F.tells files.old) (F.told files.old)) (F.faults files.old) (F.last files.old)) (files_view (told_by (F.tells files.new) (F.told files.new)) (F.faults files.new) (F.last files.new)) f) }
+    ensures same { (told_by (F.tells files.new) (F.told files.new)) ≡ (told_by (F.tells files.old) (F.told files.old)) }
     ensures later { F.faults files.old ≤ F.faults files.new }
 {
     let mut bytes = Vec::new(alloc);
@@ -131,10 +131,10 @@ fn plan_of(alloc: Global, bytes: &[u8]) -> Result<Plan, Fault>
 
 /// Reads the plan of this name.
 pub fn plan_in<F: Files>(alloc: Global, name: &str, files: &mut F) -> Result<Plan, Fault>
-    ensures read { IfOk result (λ plan. ReadsPlan (F.told files.old) name.now plan) }
+    ensures read { IfOk result (λ plan. ReadsPlan (told_by (F.tells files.old) (F.told files.old)) name.now plan) }
     ensures runnable { IfOk result (λ plan. IsRunnable plan) }
-    ensures refused { IfErr result (λ f. FileRefused PLAN name.now plan_of_file (files_view (F.told files.old) (F.faults files.old) (F.last files.old)) (files_view (F.told files.new) (F.faults files.new) (F.last files.new)) f) }
-    ensures same { F.told files.new ≡ F.told files.old }
+    ensures refused { IfErr result (λ f. FileRefused PLAN name.now plan_of_file (files_view (told_by (F.tells files.old) (F.told files.old)) (F.faults files.old) (F.last files.old)) (files_view (told_by (F.tells files.new) (F.told files.new)) (F.faults files.new) (F.last files.new)) f) }
+    ensures same { (told_by (F.tells files.new) (F.told files.new)) ≡ (told_by (F.tells files.old) (F.told files.old)) }
     ensures later { F.faults files.old ≤ F.faults files.new }
 {
     match content_of(alloc, name, MAX_PLAN_BYTES, PLAN, files) {
@@ -170,13 +170,13 @@ pub fn capsules_of<F: Files>(
     files: &mut F,
 ) -> Result<CapsuleFile, Fault>
     requires { IsUtf8 name.now }
-    ensures told { IfOk result (λ f. HoldsOf (F.told files.old name.now) f.bytes.items) }
+    ensures told { IfOk result (λ f. HoldsOf (told_by (F.tells files.old) (F.told files.old)) name.now f.bytes.items) }
     ensures read { IfOk result (λ f. AreCapsules f.bytes.items (capsules_in f.bytes.items f.capsules.items)) }
     ensures exact { IfOk result (λ f. capsules_of_file f.bytes.items ≡ Ok (capsules_in f.bytes.items f.capsules.items)) }
     ensures whole { IfOk result (λ f. All (IsWholeIn f.bytes.items) f.capsules.items) }
     ensures few { IfOk result (λ f. length f.capsules.items ≤ 65536) }
-    ensures refused { IfErr result (λ f. FileRefused CAPSULES name.now capsules_of_file (files_view (F.told files.old) (F.faults files.old) (F.last files.old)) (files_view (F.told files.new) (F.faults files.new) (F.last files.new)) f) }
-    ensures same { F.told files.new ≡ F.told files.old }
+    ensures refused { IfErr result (λ f. FileRefused CAPSULES name.now capsules_of_file (files_view (told_by (F.tells files.old) (F.told files.old)) (F.faults files.old) (F.last files.old)) (files_view (told_by (F.tells files.new) (F.told files.new)) (F.faults files.new) (F.last files.new)) f) }
+    ensures same { (told_by (F.tells files.new) (F.told files.new)) ≡ (told_by (F.tells files.old) (F.told files.old)) }
     ensures later { F.faults files.old ≤ F.faults files.new }
 {
     let name = name.as_text().unwrap();
@@ -192,9 +192,9 @@ pub fn capsules_of<F: Files>(
 /// Writes the response file of queue 1.
 pub fn written<F: Files>(name: &Name, bytes: &[u8], files: &mut F) -> Result<(), Fault>
     requires { IsUtf8 name.now }
-    ensures holds { OnOk result (HoldsOf (F.told files.new name.now) bytes.now) }
+    ensures holds { OnOk result (HoldsNow (told_by (F.tells files.old) (F.told files.old)) (told_by (F.tells files.new) (F.told files.new)) name.now bytes.now) }
     ensures others { (other : List ℕ) → other ≢ name.now → F.told files.new other ≡ F.told files.old other }
-    ensures refused { IfErr result (λ f. WriteRefused name.now (files_view (F.told files.old) (F.faults files.old) (F.last files.old)) (files_view (F.told files.new) (F.faults files.new) (F.last files.new)) f) }
+    ensures refused { IfErr result (λ f. WriteRefused name.now (files_view (told_by (F.tells files.old) (F.told files.old)) (F.faults files.old) (F.last files.old)) (files_view (told_by (F.tells files.new) (F.told files.new)) (F.faults files.new) (F.last files.new)) f) }
 {
     let name = name.as_text().unwrap();
     match files.write(name, bytes) {

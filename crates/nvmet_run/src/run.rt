@@ -1,7 +1,7 @@
 ghost use Rattle.std.specs.Prelude.{◌≡◌, ◌≢◌, ◌≤◌, ◌⊎◌, Some, None, IfOk, IfErr, OnOk, IsUtf8, string_bytes};
 ghost use Rattle.plan_files.specs.Outside.{Rose};
 ghost use Rattle.nvmet_run.specs.Codes.{status_of};
-ghost use Rattle.nvmet_run.specs.Headline.{ReadsPlan, ServedPlan, IsSimpleOf, IsRunnable, Ran};
+ghost use Rattle.nvmet_run.specs.Headline.{told_by, ReadsPlan, ServedPlan, IsSimpleOf, IsRunnable, Ran};
 ghost use Rattle.nvmet_run.specs.Outsides.{files_view, sink_view, outside, Said};
 ghost use Rattle.nvmet_run.specs.Reading.{capsules_of_file};
 ghost use Rattle.nvmet_run.specs.Refusals.{FileRefused, ServingRefused, Refusal, FilesTell, name_by};
@@ -38,9 +38,9 @@ fn serve_plan<F: Files>(
 ) -> Result<Printed, Fault>
     requires simple { IsSimpleOf plan.now disk.now queue.now }
     requires text { IsUtf8 queue.now.capsules }
-    ensures served { IfOk result (λ m. ServedPlan (F.told files.old) plan.now disk.now queue.now m.records.items (string_bytes m.text)) }
-    ensures refused { IfErr result (λ f. FileRefused CAPSULES queue.now.capsules capsules_of_file (files_view (F.told files.old) (F.faults files.old) (F.last files.old)) (files_view (F.told files.new) (F.faults files.new) (F.last files.new)) f) }
-    ensures same { F.told files.new ≡ F.told files.old }
+    ensures served { IfOk result (λ m. ServedPlan (told_by (F.tells files.old) (F.told files.old)) plan.now disk.now queue.now m.records.items (string_bytes m.text)) }
+    ensures refused { IfErr result (λ f. FileRefused CAPSULES queue.now.capsules capsules_of_file (files_view (told_by (F.tells files.old) (F.told files.old)) (F.faults files.old) (F.last files.old)) (files_view (told_by (F.tells files.new) (F.told files.new)) (F.faults files.new) (F.last files.new)) f) }
+    ensures same { (told_by (F.tells files.new) (F.told files.new)) ≡ (told_by (F.tells files.old) (F.told files.old)) }
     ensures later { F.faults files.old ≤ F.faults files.new }
 {
     let _plan = plan;
@@ -83,10 +83,10 @@ fn run_read<F: Files, K: Sink>(
     files: &mut F,
     out: &mut K,
 ) -> Result<(), Fault>
-    requires read { ReadsPlan (F.told files.old) name.now plan.now }
+    requires read { ReadsPlan (told_by (F.tells files.old) (F.told files.old)) name.now plan.now }
     requires runnable { IsRunnable plan.now }
-    ensures ran { OnOk result (Ran (F.told files.old) (F.told files.new) (K.taken out.old) (K.taken out.new) name.now) }
-    ensures refused { IfErr result (λ f. ServingRefused (outside (F.told files.old) (F.faults files.old) (F.last files.old) (K.taken out.old) (K.faults out.old)) (outside (F.told files.new) (F.faults files.new) (F.last files.new) (K.taken out.new) (K.faults out.new)) name.now plan.now.queues f) }
+    ensures ran { OnOk result (Ran (told_by (F.tells files.old) (F.told files.old)) (told_by (F.tells files.new) (F.told files.new)) (K.taken out.old) (K.taken out.new) name.now) }
+    ensures refused { IfErr result (λ f. ServingRefused (outside (told_by (F.tells files.old) (F.told files.old)) (F.faults files.old) (F.last files.old) (K.taken out.old) (K.faults out.old)) (outside (told_by (F.tells files.new) (F.told files.new)) (F.faults files.new) (F.last files.new) (K.taken out.new) (K.faults out.new)) name.now plan.now.queues f) }
 {
     let _name = name;
     let (disk, queue) = parts(plan);
@@ -123,8 +123,8 @@ fn run_whole<F: Files, K: Sink>(
     files: &mut F,
     out: &mut K,
 ) -> Result<(), Fault>
-    ensures ran { OnOk result (Ran (F.told files.old) (F.told files.new) (K.taken out.old) (K.taken out.new) plan.now) }
-    ensures refused { IfErr result (λ f. Refusal (outside (F.told files.old) (F.faults files.old) (F.last files.old) (K.taken out.old) (K.faults out.old)) (outside (F.told files.new) (F.faults files.new) (F.last files.new) (K.taken out.new) (K.faults out.new)) plan.now f) }
+    ensures ran { OnOk result (Ran (told_by (F.tells files.old) (F.told files.old)) (told_by (F.tells files.new) (F.told files.new)) (K.taken out.old) (K.taken out.new) plan.now) }
+    ensures refused { IfErr result (λ f. Refusal (outside (told_by (F.tells files.old) (F.told files.old)) (F.faults files.old) (F.last files.old) (K.taken out.old) (K.faults out.old)) (outside (told_by (F.tells files.new) (F.told files.new)) (F.faults files.new) (F.last files.new) (K.taken out.new) (K.faults out.new)) plan.now f) }
 {
     let read = match plan_in(alloc, plan, files) {
         Ok(read) => read,
@@ -157,15 +157,15 @@ pub fn run_plan<R: Wait + Threads + Sync, F: Files, K: Sink, G: Gate + Sync>(
     out: &mut K,
     _gate: &G,
 ) -> Status
-    ensures fine { result ≡ Status.Fine → Ran (F.told files.old) (F.told files.new) (K.taken out.old) (K.taken out.new) plan.now }
+    ensures fine { result ≡ Status.Fine → Ran (told_by (F.tells files.old) (F.told files.old)) (told_by (F.tells files.new) (F.told files.new)) (K.taken out.old) (K.taken out.new) plan.now }
     // The words are no matter of this call.
     ensures usage { result ≢ Status.Usage }
     // Why another status came, and what it left.
-    ensures refused { (f : Fault) → result ≡ status_of f → Refusal (outside (F.told files.old) (F.faults files.old) (F.last files.old) (K.taken out.old) (K.faults out.old)) (outside (F.told files.new) (F.faults files.new) (F.last files.new) (K.taken out.new) (K.faults out.new)) plan.now f }
+    ensures refused { (f : Fault) → result ≡ status_of f → Refusal (outside (told_by (F.tells files.old) (F.told files.old)) (F.faults files.old) (F.last files.old) (K.taken out.old) (K.faults out.old)) (outside (told_by (F.tells files.new) (F.told files.new)) (F.faults files.new) (F.last files.new) (K.taken out.new) (K.faults out.new)) plan.now f }
     // Where told files have a first fault and no call on files fails, it's the answer, unless memory runs out.
-    ensures exact { (f : Fault) → FilesTell (F.told files.old) plan.now (Some f) → ¬ Rose (F.faults files.old) (F.faults files.new) → (result ≡ status_of f) ⊎ (result ≡ Status.Memory) }
+    ensures exact { (f : Fault) → FilesTell (told_by (F.tells files.old) (F.told files.old)) plan.now (Some f) → ¬ Rose (F.faults files.old) (F.faults files.new) → (result ≡ status_of f) ⊎ (result ≡ Status.Memory) }
     // Where told files have none and no call fails, the run ends well, unless memory runs out.
-    ensures complete { FilesTell (F.told files.old) plan.now None → ¬ Rose (F.faults files.old) (F.faults files.new) → ¬ Rose (K.faults out.old) (K.faults out.new) → (result ≡ Status.Fine) ⊎ (result ≡ Status.Memory) }
+    ensures complete { FilesTell (told_by (F.tells files.old) (F.told files.old)) plan.now None → ¬ Rose (F.faults files.old) (F.faults files.new) → ¬ Rose (K.faults out.old) (K.faults out.new) → (result ≡ Status.Fine) ⊎ (result ≡ Status.Memory) }
 {
     match run_whole(alloc, plan, files, out) {
         Ok(()) => Status::Fine,

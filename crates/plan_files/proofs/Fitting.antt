@@ -7,7 +7,8 @@ use Rattle.sqe_cqe.specs.Sqe.{payload_len}
 use Rattle.plan_files.specs.Capsules.{Capsule, AreCapsules, AreWithin, capsule_of, head_of}
 use Rattle.plan_files.specs.Rooms.{capsule_room}
 use Rattle.std.specs.Prelude.{IfOk}
-use Rattle.plan_files.specs.Fronts.{◌>>=◌, Gives, front_at, capsules_from, capsules_of, width}
+use Rattle.plan_files.specs.Binding.{◌>>=◌}
+use Rattle.plan_files.specs.CapsuleReading.{Gives, next_capsule, capsules_from, capsules_of, width}
 use Rattle.plan_files.specs.declared.capsules.CapsuleError.{CapsuleError}
 
 -- a capsule that is whole and within the limits
@@ -16,9 +17,9 @@ pub record Stands (room : ℕ) (bytes : List ℕ) : Type 0 where
   pub whole : 64 + payload_len (head_of bytes) ≤ length bytes
   pub roomy : room + capsule_room (head_of bytes) ≤ 67108864
 
-pub front_is : (at room : ℕ) (bytes : List ℕ) → Stands room bytes → front_at at room bytes ≡ Ok (capsule_of bytes)
-unfolding front_at
-front_is at room bytes s =
+pub next_is : (at room : ℕ) (bytes : List ℕ) → Stands room bytes → next_capsule at room bytes ≡ Ok (capsule_of bytes)
+unfolding next_capsule
+next_is at room bytes s =
     let entry : ltb (length bytes) 64 ≡ false = le-ltb _ _ (omega (arith, s.whole)) in
     let short : ltb 131072 (payload_len (head_of bytes)) ≡ false = le-ltb _ _ s.short in
     let whole : ltb (length bytes) (64 + payload_len (head_of bytes)) ≡ false = le-ltb _ _ s.whole in
@@ -35,16 +36,16 @@ test_ok : {A : Type 0} (b : Bool) (d : CapsuleError) (r : Result A CapsuleError)
 test_ok true d r y e = absurd cc
 test_ok false d r y e = (refl, e)
 
-pub front_was : (at room : ℕ) (bytes : List ℕ) (c : Capsule) → front_at at room bytes ≡ Ok c → Stands room bytes × (c ≡ capsule_of bytes)
-unfolding front_at
-front_was at room bytes c e =
+pub next_was : (at room : ℕ) (bytes : List ℕ) (c : Capsule) → next_capsule at room bytes ≡ Ok c → Stands room bytes × (c ≡ capsule_of bytes)
+unfolding next_capsule
+next_was at room bytes c e =
     let entry = test_ok (ltb (length bytes) 64) _ _ c e in
     let short = test_ok (ltb 131072 (payload_len (head_of bytes))) _ _ c entry.1 in
     let whole = test_ok (ltb (length bytes) (64 + payload_len (head_of bytes))) _ _ c short.1 in
     let roomy = test_ok (ltb 67108864 (room + capsule_room (head_of bytes))) _ _ c whole.1 in
     (record { short = ltb-false _ _ short.0; whole = ltb-false _ _ whole.0; roomy = ltb-false _ _ roomy.0 }, cc)
 
-abbrev room_by : List Capsule → ℕ
+abbrev pub room_by : List Capsule → ℕ
 room_by cs = sum_by (λ c. capsule_room c.entry) cs
 
 -- what holds of capsules that are read from a point on
@@ -61,10 +62,10 @@ are_left left at room [] cs small e =
     subst (λ (r : List Capsule). AreLeft left room [] r) (sym none) (record { are = refl; count = omega arith; payload = tt; output = omega arith })
 are_left zero at room (b ∷ bytes) cs small e = absurd cc
 are_left (suc left) at room (b ∷ bytes) cs small e =
-    let first = bind_ok (front_at at room (b ∷ bytes)) (λ c. capsules_from left (at + width c) (room + capsule_room c.entry) (drop (width c) (b ∷ bytes)) >>= λ cs. Ok (c ∷ cs)) cs e in
+    let first = bind_ok (next_capsule at room (b ∷ bytes)) (λ c. capsules_from left (at + width c) (room + capsule_room c.entry) (drop (width c) (b ∷ bytes)) >>= λ cs. Ok (c ∷ cs)) cs e in
     let c = first.0 in
     let rest = bind_ok (capsules_from left (at + width c) (room + capsule_room c.entry) (drop (width c) (b ∷ bytes))) (λ cs. Ok (c ∷ cs)) cs first.2 in
-    let was = front_was at room (b ∷ bytes) c first.1 in
+    let was = next_was at room (b ∷ bytes) c first.1 in
     let same : c ≡ capsule_of (b ∷ bytes) = was.1 in
     let entry : c.entry ≡ head_of (b ∷ bytes) = ap (λ (x : Capsule). x.entry) same in
     let roomy : room + capsule_room c.entry ≤ 67108864 = rw entry was.0.roomy in
@@ -88,7 +89,7 @@ is_read (suc left) at room (b ∷ bytes) (c ∷ cs) h =
     let entry : c.entry ≡ head_of (b ∷ bytes) = ap (λ (x : Capsule). x.entry) same in
     let sums = sum_by-cons (λ (c : Capsule). capsule_room c.entry) c cs in
     let stands : Stands room (b ∷ bytes) = record { short = rw (← entry) h.payload.0; whole = h.are.0; roomy = rw (← entry) (omega (arith, h.output, sums)) } in
-    let first : front_at at room (b ∷ bytes) ≡ Ok c = front_is at room (b ∷ bytes) stands ∙ ap (λ (x : Capsule). Ok x) (sym same) in
+    let first : next_capsule at room (b ∷ bytes) ≡ Ok c = next_is at room (b ∷ bytes) stands ∙ ap (λ (x : Capsule). Ok x) (sym same) in
     let tail : AreLeft left (room + capsule_room c.entry) (drop (width c) (b ∷ bytes)) cs = record {
       are = rw entry h.are.2;
       count = omega (arith, h.count);

@@ -11,7 +11,8 @@ use Rattle.plan_files.specs.declared.plan.PlanError.TheVariants as errors
 use Rattle.plan_files.specs.Lines.{lines_of}
 use Rattle.plan_files.specs.Spelling.{item_in}
 use Rattle.plan_files.specs.Plans.{IsPlan, Adds, IsAllowed, no_plan, with_item, is_new, agrees, within, item_bytes, total_of, is_complete, is_passed_over}
-use Rattle.plan_files.specs.PlanReading.{◌>>=◌, Gives, item_taken, said_taken, line_taken, next_line, plan_from, plan_by, plan_in}
+use Rattle.plan_files.specs.Binding.{◌>>=◌}
+use Rattle.plan_files.specs.PlanReading.{Gives, item_taken, said_taken, line_taken, next_line, plan_from, plan_by, plan_in}
 use Rattle.plan_files.proofs.Wording.{and-parts}
 use Rattle.plan_files.proofs.Saying.{item_was, item_read}
 

@@ -1,5 +1,6 @@
 pub mod Outside
 pub mod Kept
+pub mod Pieces
 pub mod Words
 pub mod Lines
 pub mod Spelling
@@ -8,7 +9,9 @@ pub mod Plans
 pub mod PlanReading
 pub mod Rooms
 pub mod Capsules
-pub mod Fronts
+pub mod Binding
+pub mod CapsuleReading
+pub mod CapsuleFaults
 pub mod Records
 pub mod Stored
 pub mod Adapters

@@ -5,6 +5,7 @@ use Rattle.plan_files.specs.declared.items.Item.{Item}
 use Rattle.plan_files.specs.declared.items.Plan.{Plan}
 use Rattle.plan_files.specs.declared.plan.PlanError.{PlanError}
 use Rattle.plan_files.specs.declared.plan.PlanError.TheVariants as errors
+use Rattle.plan_files.specs.Binding.{◌>>=◌}
 use Rattle.plan_files.specs.Lines.{lines_of}
 use Rattle.plan_files.specs.Spelling.{item_in}
 use Rattle.plan_files.specs.Plans.{no_plan, with_item, is_new, agrees, within, item_bytes, is_complete, is_passed_over}
@@ -23,11 +24,6 @@ Leaves plan (Err e) read = Fails e read
 abbrev pub Gives : Result Plan PlanError → Result Plan PlanError → Type 0
 Gives (Ok plan) read = read ≡ Ok plan
 Gives (Err e) read = Fails e read
-
-infixl 10 ◌>>=◌
-abbrev pub ◌>>=◌ : {A B : Type 0} → Result A PlanError → (A → Result B PlanError) → Result B PlanError
-(Ok x) >>= f = f x
-(Err e) >>= f = Err e
 
 -- the plan after an item on line n: a bad line comes before a passed limit
 unfoldable pub item_taken : ℕ → Plan → Item → Result Plan PlanError

@@ -1,8 +1,10 @@
 // Capsule files: submission entries and the data that go with them to the controller.
-ghost use Rattle.std.specs.Prelude.{◌≡◌, ◌≤◌, ◌<◌, ◌+◌, ◌*◌, List, IfOk, Ok, All, length, drop};
+ghost use Rattle.std.specs.Prelude.{◌≡◌, ◌≤◌, ◌<◌, ◌+◌, ◌*◌, ◌≢◌, List, IfOk, IfErr, Ok, Err, All, length, drop};
 ghost use Rattle.plan_files.specs.Capsules as file;
-ghost use Rattle.plan_files.specs.Capsules.{AreCapsules, AreWithin, IsWholeIn, capsule_in, capsules_in, head_of};
-ghost use Rattle.plan_files.specs.Fronts.{Gives, front_at, capsules_of};
+ghost use Rattle.plan_files.specs.Capsules.{AreCapsules, AreWithin, IsWholeIn, StandBetween, capsule_in, capsules_in, head_of};
+ghost use Rattle.plan_files.specs.CapsuleFaults.{FirstFault};
+ghost use Rattle.plan_files.specs.declared.capsules.CapsuleError as file_error;
+ghost use Rattle.plan_files.specs.CapsuleReading.{Gives, next_capsule, capsules_of};
 ghost use Rattle.plan_files.specs.Rooms.{capsule_room, room_of};
 ghost use Rattle.plan_files.specs.declared.capsules.CapsuleError.TheVariants.{Memory, TooLong};
 
@@ -75,11 +77,11 @@ fn room_for(e: &Sqe) -> u64
 }
 
 // The capsule at an offset, after capsules that need so much room.
-#[tactic(auto, unfolding(crate::specs::Fronts::front_at))]
+#[tactic(auto, unfolding(crate::specs::CapsuleReading::next_capsule))]
 fn capsule_at(bytes: &[u8], at: usize, room: u64) -> Result<Capsule, CapsuleError>
     requires inside { at ≤ length bytes.now }
     requires small { room ≤ 67108864 }
-    ensures exact { Gives (capsule_in bytes.now) result (front_at at room (drop at bytes.now)) }
+    ensures exact { Gives (capsule_in bytes.now) result (next_capsule at room (drop at bytes.now)) }
     ensures whole { IfOk result (IsWholeIn bytes.now) }
     ensures place { IfOk result (λ c. c.data_at ≡ at + 64) }
     ensures roomy { IfOk result (λ c. room + capsule_room c.sqe ≤ 67108864) }
@@ -119,6 +121,7 @@ fn too_long(what: What, count: u64) -> CapsuleError
 fn all_capsules(alloc: Global, bytes: &[u8]) -> Result<Vec<Capsule>, CapsuleError>
     ensures exact { Gives (λ v. capsules_in bytes.now v.items) result (capsules_of bytes.now) }
     ensures whole { IfOk result (λ v. All (IsWholeIn bytes.now) v.items) }
+    ensures places { IfOk result (λ v. StandBetween 0 (length bytes.now) v.items) }
 {
     let mut capsules = Vec::new(alloc);
     let mut at = 0;
@@ -148,8 +151,14 @@ pub fn read_capsules(alloc: Global, bytes: &[u8]) -> Result<Vec<Capsule>, Capsul
     ensures only { (cs : List file.Capsule) → AreWithin cs → AreCapsules bytes.now cs → Gives (λ v. capsules_in bytes.now v.items) result (Ok cs) }
     // Which fault it is.
     ensures exact { Gives (λ v. capsules_in bytes.now v.items) result (capsules_of bytes.now) }
-    // Where the data stand.
+    // The error is the file's first fault, and its first fault the error, unless memory runs out.
+    ensures fault { IfErr result (λ e. e ≢ Memory → FirstFault bytes.now e) }
+    ensures faults { (e : file_error.CapsuleError) → FirstFault bytes.now e
+        → Gives (λ v. capsules_in bytes.now v.items) result (Err e) }
+    // Where the data stand: right after the entry, and the next capsule right after them, up to the
+    // end of the file.
     ensures whole { IfOk result (λ v. All (IsWholeIn bytes.now) v.items) }
+    ensures places { IfOk result (λ v. StandBetween 0 (length bytes.now) v.items) }
 {
     all_capsules(alloc, bytes)
 }

@@ -1,6 +1,6 @@
 // What both kinds of files keep of their calls: a count of faults, and the last call.
-ghost use Rattle.std.specs.Prelude.{◌≡◌, ◌≤◌};
-ghost use Rattle.plan_files.specs.Outside.{Rose, rose};
+ghost use Rattle.std.specs.Prelude.{◌≡◌};
+ghost use Rattle.plan_files.specs.Outside.{next_count, rose};
 ghost use Rattle.plan_files.specs.Kept.{IsKept};
 
 /// The last call on files, kept without memory.
@@ -27,12 +27,11 @@ pub(crate) fn kept(wrote: bool, name: &[u8], rose: bool) -> KeptCall
     }
 }
 
-// The count after a fault.
-pub(crate) fn raised(faults: u64) -> u64
-    ensures later { faults ≤ result }
-    ensures rose { Rose faults result }
+// A count with one more; it stands still at its type's end.
+pub(crate) fn raised(count: u64) -> u64
+    ensures { result ≡ next_count count }
 {
-    faults.saturating_add(1)
+    count.saturating_add(1)
 }
 
 // Whether a count rose, or stands at its end.

@@ -1,97 +1,207 @@
 // The real files and standard output. They tell nothing of contents.
-ghost use Rattle.std.specs.Prelude.{◌≡◌, ◌≤◌, ◌<◌, ◌+◌, None, false, length, take, IfOk, IfSome};
+ghost use Rattle.std.specs.Prelude.{◌≡◌, ◌≢◌, None, false, IsTrue, IfErr};
 ghost use Rattle.std.specs.Option.{option_map};
-ghost use Rattle.plan_files.specs.Outside.{ReadGives};
+ghost use Rattle.std.specs.Io.KnownBytes.{Appends};
 ghost use Rattle.plan_files.specs.Kept.{kept_call};
 
 use crate::faults::{KeptCall, has_risen, kept, raised};
 use crate::outside::{FileError, Files, Sink, SinkFault, WriteError};
-use std::io::{Read, Write};
+use crate::pieces::{read_content, write_pieces};
+use std::alloc::{AllocError, Global};
+use std::fs::{Metadata, OpenFile, OpenOptions, Permissions};
+use std::io::{ErrorKind, Write};
+use std::os::unix::fs::MetadataExt;
+use std::path::Path;
 use std::{fs, io, rt};
 
-// The most bytes that one read asks the system for.
-const PIECE: usize = 65_536;
+// Which file of the system stands behind a name.
+#[derive(Clone, Copy, PartialEq, Eq)]
+struct FileId {
+    device: u64,
+    inode: u64,
+}
 
-// Reads at most `room` bytes into their place after the first `at` bytes, and says how many came.
-// None where there is no memory. What a short read leaves of the room serves the next one.
-fn read_piece<S: Read>(
-    source: &mut S,
-    at: usize,
-    room: usize,
-    into: &mut Vec<u8>,
-) -> Option<io::Result<usize>>
-    requires at { at ≤ length into.old.items }
-    requires room { length into.old.items ≤ at + room }
-    requires small { room ≤ 65536 }
-    ensures front { take at into.new.items ≡ take at into.old.items }
-    ensures room { (at ≤ length into.new.items) × (length into.new.items ≤ at + room) }
-    ensures count { IfSome result (λ r. IfOk r (λ n. at + n ≤ length into.new.items)) }
-{
-    if into.resize(at + room, 0).is_err() {
+impl FileId {
+    fn of(metadata: &Metadata) -> Self {
+        FileId {
+            device: metadata.dev(),
+            inode: metadata.ino(),
+        }
+    }
+}
+
+// Where the bytes of a write go.
+#[derive(Drop)]
+enum Destination<F: Drop> {
+    // No file is there.
+    Missing,
+    // A file that is replaced by a new one with these permissions.
+    Replaced(Permissions),
+    // What stands behind a link is written in place, and so is a device or pipe.
+    InPlace(F),
+}
+
+// Looks at what a name stands for, without a change. None where it can't be written, or is one of the
+// files that were read.
+fn find_destination<R: rt::Files>(
+    rt: &R,
+    name: &str,
+    seen: &[FileId],
+) -> Option<Destination<R::File>> {
+    let mut how = OpenOptions::new();
+    how.write(true);
+    let file = match how.open(rt, name) {
+        Ok(file) => file,
+        Err(error) if error.kind() == ErrorKind::NotFound => return Some(Destination::Missing),
+        Err(_) => return None,
+    };
+    let Ok(metadata) = file.metadata() else {
+        return None;
+    };
+    if seen.contains(&FileId::of(&metadata)) {
         return None;
     }
-    Some(source.read(&mut into[at..]))
+    if !metadata.is_file() {
+        return Some(Destination::InPlace(file));
+    }
+    let Ok(unfollowed) = fs::symlink_metadata(rt, name) else {
+        return None;
+    };
+    if unfollowed.is_file() {
+        return Some(Destination::Replaced(metadata.permissions()));
+    }
+    match file.set_len(0) {
+        Ok(()) => Some(Destination::InPlace(file)),
+        Err(_) => None,
+    }
 }
 
-// Appends what is left of a source, at most `limit` bytes, or `limit + 1` bytes of more.
-fn read_all<S: Read>(source: &mut S, limit: usize, into: &mut Vec<u8>) -> Result<(), FileError>
-    ensures { ReadGives None limit into.old.items into.new.items result }
+// How many names are tried for a new file.
+const TRIES: u32 = 1000;
+
+// Makes a new file in the folder of a name, and says how it is called.
+fn create_beside<R: rt::Files>(
+    rt: &R,
+    alloc: Global,
+    name: &str,
+) -> Result<(String, R::File), WriteError> {
+    let mut how = OpenOptions::new();
+    how.write(true).create_new(true);
+    for number in 0..TRIES {
+        let Ok(beside) = name_beside(alloc, name, number) else {
+            return Err(WriteError::Memory);
+        };
+        match how.open(rt, beside.as_str()) {
+            Ok(file) => return Ok((beside, file)),
+            Err(error) if error.kind() == ErrorKind::AlreadyExists => {}
+            Err(_) => return Err(WriteError::Failed),
+        }
+    }
+    Err(WriteError::Failed)
+}
+
+// A name in the same folder.
+fn name_beside(alloc: Global, name: &str, number: u32) -> Result<String, AllocError> {
+    let file = format!(in alloc; ".nvmetd-new-{number}")?;
+    let path = Path::new(name).with_file_name(alloc, file.as_str())?;
+    Ok(path.into_string())
+}
+
+// Fills a new file, and says whether all of the bytes are on its device.
+fn fill<F: Write + OpenFile>(file: &mut F, like: Option<Permissions>, bytes: &[u8]) -> bool
+    ensures { IsTrue result → Appends (F.contents file.old) (F.contents file.new) bytes.now }
 {
-    let start = into.len();
-    let mut filled = start;
-    while filled - start <= limit {
-        let room = (limit - (filled - start)).min(PIECE - 1) + 1;
-        match read_piece(source, filled, room, into) {
-            None => {
-                into.truncate(start);
-                return Err(FileError::Memory);
-            }
-            Some(Err(_)) => {
-                into.truncate(start);
-                return Err(FileError::Failed);
-            }
-            Some(Ok(0)) => {
-                into.truncate(filled);
-                return Ok(());
-            }
-            Some(Ok(count)) => filled += count,
+    if let Some(permissions) = like {
+        if file.set_permissions(permissions).is_err() {
+            return false;
         }
     }
-    Err(FileError::TooLong)
+    write_pieces(file, bytes) && file.sync_all().is_ok()
 }
 
-// Writes all of the bytes, piece by piece, and says whether that went well. A write that takes
-// nothing would be tried for ever, so it is a fault.
-fn write_pieces<W: Write>(to: &mut W, bytes: &[u8]) -> bool {
-    let mut done = 0;
-    while done < bytes.len() {
-        match to.write(&bytes[done..]) {
-            Err(_) | Ok(0) => return false,
-            Ok(count) => done += count,
-        }
+// Puts a new file with these bytes in the place of a name. At a fault the name holds what it held,
+// and the new file is removed.
+fn replace<R: rt::Files>(
+    rt: &R,
+    alloc: Global,
+    name: &str,
+    like: Option<Permissions>,
+    bytes: &[u8],
+) -> Result<(), WriteError> {
+    let (beside, mut file) = create_beside(rt, alloc, name)?;
+    if fill(&mut file, like, bytes) && fs::rename(rt, beside.as_str(), name).is_ok() {
+        return Ok(());
     }
-    true
+    let _ = fs::remove_file(rt, beside.as_str());
+    Err(WriteError::Failed)
 }
 
 /// The real files, under the names that the operating system gives them. Each error of the system
 /// is a fault, an interrupted call too.
+///
+/// A name that stands for a file that was read, by device and inode, is not written: that is a
+/// fault, whatever the name. A file is written as a new one beside it (`.nvmetd-new-` and a number),
+/// with the permissions of the old one, that takes its name once all of its bytes are on the device;
+/// so at a fault the name holds what it held. A device, a pipe and what a link leads to are written
+/// in place.
 #[derive(Drop)]
 pub struct HostFiles<'a, R> {
     rt: &'a R,
+    alloc: Global,
+    seen: Vec<FileId>,
     faults: u64,
     last: Option<KeptCall>,
 }
 
 impl<'a, R: rt::Files> HostFiles<'a, R> {
-    /// The files of this runtime: no faults so far, and no last call.
-    pub fn new(rt: &'a R) -> Self
+    /// The files of this runtime: no faults so far, and no last call. Memory is taken from `alloc`
+    /// to note which files were read, and for the name of a new file.
+    pub fn new(rt: &'a R, alloc: Global) -> Self
         ensures faults { ⟦<HostFiles<'a, R> as Files>⟧.faults result ≡ 0 }
         ensures last { ⟦<HostFiles<'a, R> as Files>⟧.last result ≡ None }
     {
         HostFiles {
             rt,
+            alloc,
+            seen: Vec::new(alloc),
             faults: 0,
             last: None,
+        }
+    }
+
+    // Opens a file to be read, and notes which one it is.
+    fn open(&mut self, name: &str) -> Result<R::File, FileError>
+        ensures faults { self.new.faults ≡ self.old.faults }
+        ensures never { IfErr result (λ e. e ≢ FileError.TooLong) }
+    {
+        let Ok(file) = fs::open(self.rt, name) else {
+            return Err(FileError::Failed);
+        };
+        let Ok(metadata) = file.metadata() else {
+            return Err(FileError::Failed);
+        };
+        let id = FileId::of(&metadata);
+        if !self.seen.contains(&id) && self.seen.push(id).is_err() {
+            return Err(FileError::Memory);
+        }
+        Ok(file)
+    }
+
+    // Writes over what a name stands for.
+    fn write_over(&self, name: &str, bytes: &[u8]) -> Result<(), WriteError> {
+        match find_destination(self.rt, name, &self.seen) {
+            Some(Destination::Missing) => replace(self.rt, self.alloc, name, None, bytes),
+            Some(Destination::Replaced(permissions)) => {
+                replace(self.rt, self.alloc, name, Some(permissions), bytes)
+            }
+            Some(Destination::InPlace(mut file)) => {
+                if write_pieces(&mut file, bytes) {
+                    Ok(())
+                } else {
+                    Err(WriteError::Failed)
+                }
+            }
+            None => Err(WriteError::Failed),
         }
     }
 }
@@ -106,9 +216,9 @@ impl<'a, R: rt::Files> Files for HostFiles<'a, R> {
     ghost last = { λ s. option_map kept_call s.last };
 
     fn read(&mut self, name: &str, limit: usize, into: &mut Vec<u8>) -> Result<(), FileError> {
-        let result = match fs::open(self.rt, name) {
-            Ok(mut file) => read_all(&mut file, limit, into),
-            Err(_) => Err(FileError::Failed),
+        let result = match self.open(name) {
+            Ok(mut file) => read_content(&mut file, limit, into),
+            Err(error) => Err(error),
         };
         let before = self.faults;
         if matches!(result, Err(FileError::Failed)) {
@@ -119,20 +229,13 @@ impl<'a, R: rt::Files> Files for HostFiles<'a, R> {
     }
 
     fn write(&mut self, name: &str, bytes: &[u8]) -> Result<(), WriteError> {
-        let written = match fs::create(self.rt, name) {
-            Ok(mut file) => write_pieces(&mut file, bytes),
-            Err(_) => false,
-        };
+        let result = self.write_over(name, bytes);
         let before = self.faults;
-        if !written {
+        if matches!(result, Err(WriteError::Failed)) {
             self.faults = raised(before);
         }
         self.last = Some(kept(true, name.as_bytes(), has_risen(before, self.faults)));
-        if written {
-            Ok(())
-        } else {
-            Err(WriteError::Failed)
-        }
+        result
     }
 }
 

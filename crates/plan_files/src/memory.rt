@@ -1,10 +1,9 @@
 // Files and a sink in memory, which tell what they hold, and fail at the calls that a list names.
-ghost use Rattle.std.specs.Prelude.{◌≡◌, ◌≢◌, ◌≤◌, ℕ, List, [], Err, Some, None, true, IsTrue, IfOk, OnOk, OnErr, MatchOption, take, length};
+ghost use Rattle.std.specs.Prelude.{◌≡◌, ◌≢◌, ◌≤◌, ◌<◌, ◌⊎◌, ◌↔◌, ◌++◌, ℕ, List, [], Err, Some, None, true, IsTrue, IsErr, IfOk, IfSome, MatchOption, take, length, vec_capacity};
 ghost use Rattle.std.specs.Option.{option_map};
 ghost use Rattle.plan_files.specs.Kept.{kept_call};
-ghost use Rattle.plan_files.specs.Outside.{ReadGives, WriteGives};
+ghost use Rattle.plan_files.specs.Outside.{next_count, read_call, write_call, ReadGives, WriteGives, ReadCause, WriteCause, SinkTakes, SinkCause};
 ghost use Rattle.plan_files.specs.Stored.{holds, StoredAt};
-ghost use Rattle.plan_files.specs.Adapters.{calls_of, failing, count_of, sink_room, sink_failing};
 
 use crate::faults::{KeptCall, has_risen, kept, raised};
 use crate::outside::{FileError, Files, Sink, SinkFault, WriteError};
@@ -23,6 +22,8 @@ pub struct MemFiles {
 }
 
 impl MemFiles {
+    ghost use Rattle.plan_files.specs.Adapters.{calls_of, failing, fails_next, count_of};
+
     /// No files, no faults so far, and no last call. `fails` has the numbers of the calls of `read`
     /// and `write`, counted together from 0, that are to fail; a write that fails changes nothing.
     pub fn new(alloc: Global, fails: Vec<u64>) -> Self
@@ -82,16 +83,38 @@ impl MemFiles {
 
     // Counts a call, and says whether it is to fail.
     fn fails_now(&mut self) -> bool
-        ensures files { self.new.files ≡ self.old.files }
-        ensures faults { self.new.faults ≡ self.old.faults }
+        ensures failing { result ≡ fails_next self.old }
+        ensures counted { self.new ≡ record self.old { calls = next_count self.old.calls } }
     {
         let now = self.calls;
-        self.calls = now.saturating_add(1);
+        self.calls = raised(now);
         self.fails.contains(&now)
+    }
+
+    // Appends what a name holds, in a call that fails or doesn't.
+    fn append(
+        &self,
+        is_failing: bool,
+        name: &str,
+        limit: usize,
+        into: &mut Vec<u8>,
+    ) -> Result<(), FileError>
+        ensures gives { ReadGives (holds self.now.files name.now) limit into.old.items into.new.items result }
+        ensures failed { (result ≡ Err FileError.Failed) ↔ (IsTrue is_failing ⊎ (holds self.now.files name.now ≡ None)) }
+    {
+        if is_failing {
+            return Err(FileError::Failed);
+        }
+        match self.files.get(name) {
+            Some(bytes) => copied(bytes.as_slice(), limit, into),
+            None => Err(FileError::Failed),
+        }
     }
 }
 
 impl Files for MemFiles {
+    ghost use Rattle.plan_files.specs.Adapters.{told_of, faults_of, last_of, count_of, fails_next, CountsCall};
+
     ghost tells = { λ s. true };
 
     ghost told = { λ s name. holds s.files name };
@@ -100,13 +123,21 @@ impl Files for MemFiles {
 
     ghost last = { λ s. option_map kept_call s.last };
 
-    fn read(&mut self, name: &str, limit: usize, into: &mut Vec<u8>) -> Result<(), FileError> {
-        let failing = self.fails_now();
+    fn read(&mut self, name: &str, limit: usize, into: &mut Vec<u8>) -> Result<(), FileError>
+        ensures missing { told_of self.old name.now ≡ None → result ≡ Err FileError.Failed }
+        ensures content { ReadGives (told_of self.old name.now) limit into.old.items into.new.items result }
+        ensures same { told_of self.new ≡ told_of self.old }
+        ensures cause { ReadCause (faults_of self.old) (faults_of self.new) result }
+        ensures last { last_of self.new ≡ Some (read_call name.now (faults_of self.old) (faults_of self.new)) }
+        // It fails where the list names this call or the name isn't there, and nowhere else.
+        ensures failed { (result ≡ Err FileError.Failed) ↔ (IsTrue (fails_next self.old) ⊎ (told_of self.old name.now ≡ None)) }
+        ensures one_fault { result ≡ Err FileError.Failed → faults_of self.new ≡ next_count (faults_of self.old) }
+        ensures counted { CountsCall self.old self.new }
+        ensures count { count_of self.new ≡ count_of self.old }
+    {
+        let is_failing = self.fails_now();
         let before = self.faults;
-        let result = match self.files.get(name) {
-            Some(bytes) if !failing => copied(bytes.as_slice(), limit, into),
-            _ => Err(FileError::Failed),
-        };
+        let result = self.append(is_failing, name, limit, into);
         if matches!(result, Err(FileError::Failed)) {
             self.faults = raised(before);
         }
@@ -114,14 +145,23 @@ impl Files for MemFiles {
         result
     }
 
-    fn write(&mut self, name: &str, bytes: &[u8]) -> Result<(), WriteError> {
-        let failing = self.fails_now();
+    fn write(&mut self, name: &str, bytes: &[u8]) -> Result<(), WriteError>
+        ensures content { WriteGives true (told_of self.old) (told_of self.new) name.now bytes.now result }
+        ensures cause { WriteCause (faults_of self.old) (faults_of self.new) result }
+        ensures last { last_of self.new ≡ Some (write_call name.now (faults_of self.old) (faults_of self.new)) }
+        // It fails where the list names this call, and nowhere else; then each name is as before.
+        ensures failed { (result ≡ Err WriteError.Failed) ↔ IsTrue (fails_next self.old) }
+        ensures kept { result ≡ Err WriteError.Failed → told_of self.new ≡ told_of self.old }
+        ensures one_fault { result ≡ Err WriteError.Failed → faults_of self.new ≡ next_count (faults_of self.old) }
+        ensures counted { CountsCall self.old self.new }
+    {
+        let is_failing = self.fails_now();
         let before = self.faults;
-        if failing {
+        if is_failing {
             self.faults = raised(before);
         }
         self.last = Some(kept(true, name.as_bytes(), has_risen(before, self.faults)));
-        if failing {
+        if is_failing {
             return Err(WriteError::Failed);
         }
         stored(self.alloc, &mut self.files, name, bytes)
@@ -175,9 +215,12 @@ pub struct MemSink {
     fails: Vec<u64>,
     calls: u64,
     faults: u64,
+    ghost reserved: { room ≤ vec_capacity bytes },
 }
 
 impl MemSink {
+    ghost use Rattle.plan_files.specs.Adapters.{sink_room, sink_calls, sink_failing, sink_fails_next, takes_next};
+
     /// Nothing taken and no faults so far, with memory for `room` bytes. `fails` has the numbers of
     /// the calls of `put`, from 0, that are to fail and take nothing. A put past the room takes
     /// what fits, and is a fault.
@@ -185,6 +228,7 @@ impl MemSink {
         ensures taken { IfOk result (λ s. ⟦<MemSink as Sink>⟧.taken s ≡ Some []) }
         ensures faults { IfOk result (λ s. ⟦<MemSink as Sink>⟧.faults s ≡ 0) }
         ensures room { IfOk result (λ s. sink_room s ≡ room) }
+        ensures calls { IfOk result (λ s. sink_calls s ≡ 0) }
         ensures failing { IfOk result (λ s. sink_failing s ≡ fails.items) }
     {
         let bytes = Vec::with_capacity(alloc, room)?;
@@ -204,30 +248,45 @@ impl MemSink {
         &self.bytes
     }
 
-    // Counts a call, and says how many of so many bytes it is to take.
-    fn takes_now(&mut self, len: usize) -> usize
-        ensures fits { result ≤ len }
+    // Counts a call, and says how many of so many bytes it is to take, and whether it is to fail
+    // in any case.
+    fn takes_now(&mut self, len: usize) -> (usize, bool)
+        ensures takes { result.0 ≡ takes_next self.old len }
+        ensures fails { result.1 ≡ sink_fails_next self.old }
         ensures bytes { self.new.bytes ≡ self.old.bytes }
+        ensures room { self.new.room ≡ self.old.room }
+        ensures failing { self.new.fails.items ≡ self.old.fails.items }
+        ensures calls { self.new.calls ≡ next_count self.old.calls }
         ensures faults { self.new.faults ≡ self.old.faults }
     {
         let now = self.calls;
-        self.calls = now.saturating_add(1);
+        self.calls = raised(now);
         if self.fails.contains(&now) {
-            return 0;
+            return (0, true);
         }
-        len.min(self.room.saturating_sub(self.bytes.len()))
+        (len.min(self.room.saturating_sub(self.bytes.len())), false)
     }
 }
 
 impl Sink for MemSink {
+    ghost use Rattle.plan_files.specs.Adapters.{taken_of, sink_faults, sink_fails_next, takes_next, CountsPut};
+
     ghost taken = { λ s. Some s.bytes.items };
 
     ghost faults = { λ s. s.faults };
 
-    fn put(&mut self, bytes: &[u8]) -> Result<(), SinkFault> {
-        let count = self.takes_now(bytes.len());
+    fn put(&mut self, bytes: &[u8]) -> Result<(), SinkFault>
+        ensures content { SinkTakes (Some (taken_of self.old)) (Some (taken_of self.new)) bytes.now result }
+        ensures cause { SinkCause (sink_faults self.old) (sink_faults self.new) result }
+        // It fails where the list names this call or the bytes don't fit, and nowhere else.
+        ensures failed { IsErr result ↔ (IsTrue (sink_fails_next self.old) ⊎ (takes_next self.old (length bytes.now) < length bytes.now)) }
+        ensures takes { taken_of self.new ≡ taken_of self.old ++ take (takes_next self.old (length bytes.now)) bytes.now }
+        ensures one_fault { IsErr result → sink_faults self.new ≡ next_count (sink_faults self.old) }
+        ensures counted { CountsPut self.old self.new }
+    {
+        let (count, is_failing) = self.takes_now(bytes.len());
         let taken = self.bytes.extend_from_slice(&bytes[..count]).is_ok();
-        if taken && count == bytes.len() {
+        if taken && !is_failing && count == bytes.len() {
             return Ok(());
         }
         self.faults = raised(self.faults);

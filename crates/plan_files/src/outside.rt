@@ -1,5 +1,5 @@
 // What lies outside the program: files, a sink for text, and a gate that tests use.
-ghost use Rattle.std.specs.Prelude.{◌≡◌, ℕ, Bool, List, Option, Some};
+ghost use Rattle.std.specs.Prelude.{◌≡◌, ℕ, Bool, IsTrue, List, Option, Some, None, Err};
 ghost use Rattle.plan_files.specs.Outside.{LastCall, read_call, write_call, ReadGives, WriteGives, ReadCause, WriteCause, SinkCause, SinkTakes};
 
 use std::sync::Wait;
@@ -31,13 +31,15 @@ pub enum WriteError {
 /// An implementation may tell what names hold (as files in memory do) or not (as real files do):
 /// contracts claim contents only where they are told.
 pub trait Files {
-    /// Whether contents are told at all. No call changes it.
+    /// Whether contents are told at all. Then a name of which nothing is told isn't there. No call
+    /// changes it.
     ghost tells: { Self → Bool };
 
     /// What a name holds, where that is told. A name that isn't there has nothing to tell.
     ghost told: { Self → List ℕ → Option (List ℕ) };
 
-    /// How many calls have failed. It never falls, and stands still at 2^64 - 1.
+    /// How many calls have failed. It rises in a call that answers `Failed`, and in no other; it
+    /// never falls, and stands still at 2^64 - 1.
     ghost faults: { Self → ℕ };
 
     /// The last call: read or write, the first 255 bytes of the name, and whether the count of
@@ -47,8 +49,11 @@ pub trait Files {
     /// Appends the content of a name, of at most `limit` bytes, to `into`.
     ///
     /// `Failed` and `Memory` leave `into` as before; `TooLong` leaves it followed by `limit + 1`
-    /// bytes. Whatever the answer, each name holds what it held, told or not as before.
+    /// bytes. Whatever the answer, each name holds what it held, told or not as before. A name that
+    /// isn't there is never read as an empty one.
     fn read(&mut self, name: &str, limit: usize, into: &mut Vec<u8>) -> Result<(), FileError>
+        // Where contents are told, a name that isn't there can't be read.
+        ensures missing { IsTrue (tells self.old) → told self.old name.now ≡ None → result ≡ Err FileError.Failed }
         ensures content { ReadGives (told self.old name.now) limit into.old.items into.new.items result }
         ensures same { told self.new ≡ told self.old }
         ensures tells { tells self.new ≡ tells self.old }
@@ -76,7 +81,8 @@ pub trait Sink {
     /// The bytes taken so far, where that is told.
     ghost taken: { Self → Option (List ℕ) };
 
-    /// How many calls have failed. It never falls, and stands still at 2^64 - 1.
+    /// How many calls have failed. It rises in a call that fails, and in no other; it never falls,
+    /// and stands still at 2^64 - 1.
     ghost faults: { Self → ℕ };
 
     /// Takes all of these bytes after the earlier ones, or, at a fault, a front of them.

@@ -100,7 +100,7 @@ fn keeps_text_in_memory(rt: HostRuntime) -> Result<(), Fail> {
 
 #[test]
 fn reaches_real_files(rt: HostRuntime) -> Result<(), Fail> {
-    let mut files = HostFiles::new(&rt);
+    let mut files = HostFiles::new(&rt, rt.alloc());
     let mut into = Vec::new(rt.alloc());
     assert_eq!(rt; files.write("plan_files_test", b"some text"), Ok(()));
     assert_eq!(rt; files.read("plan_files_test", 9, &mut into), Ok(()));

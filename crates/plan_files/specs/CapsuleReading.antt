@@ -1,6 +1,7 @@
--- Reading capsules from the front of a file: the capsules, or the first cut or passed limit.
+-- Reading capsules from the first byte of a file on: the capsules, or the first cut or passed limit.
 use Rattle.std.specs.Prelude.{◌≡◌, ℕ, zero, suc, ◌+◌, List, [], ◌∷◌, length, drop, nat_lt, if◌then◌else◌, Result, Ok, Err}
 use Rattle.sqe_cqe.specs.Sqe.{payload_len}
+use Rattle.plan_files.specs.Binding.{◌>>=◌}
 use Rattle.plan_files.specs.Capsules.{Capsule, capsule_of, head_of}
 use Rattle.plan_files.specs.Rooms.{capsule_room}
 use Rattle.plan_files.specs.declared.capsules.CapsuleError.{CapsuleError}
@@ -17,20 +18,15 @@ abbrev pub Gives : {X Y : Type 0} → (X → Y) → Result X CapsuleError → Re
 Gives view (Ok x) read = read ≡ Ok (view x)
 Gives view (Err e) read = Fails e read
 
--- The capsule at the front of what is left from the offset `at` on, after capsules that need this room. In one capsule
+-- The next capsule: the first of what is left from the offset `at` on, after capsules that need this room. In one capsule
 -- a cut entry comes first, then data that are too long, then cut data, then too much room.
-unfoldable pub front_at : ℕ → ℕ → List ℕ → Result Capsule CapsuleError
-front_at at room bytes =
+unfoldable pub next_capsule : ℕ → ℕ → List ℕ → Result Capsule CapsuleError
+next_capsule at room bytes =
     if nat_lt (length bytes) 64 then Err (errors.Cut at) else
     (if nat_lt 131072 (payload_len (head_of bytes)) then Err (errors.TooLong Data (payload_len (head_of bytes))) else
     (if nat_lt (length bytes) (64 + payload_len (head_of bytes)) then Err (errors.Cut at) else
     (if nat_lt 67108864 (room + capsule_room (head_of bytes)) then Err (errors.TooLong Output (room + capsule_room (head_of bytes))) else
     Ok (capsule_of bytes))))
-
-infixl 10 ◌>>=◌
-abbrev pub ◌>>=◌ : {A B : Type 0} → Result A CapsuleError → (A → Result B CapsuleError) → Result B CapsuleError
-(Ok x) >>= f = f x
-(Err e) >>= f = Err e
 
 -- how many bytes a capsule takes in its file
 abbrev pub width : Capsule → ℕ
@@ -41,7 +37,7 @@ unfoldable pub capsules_from : ℕ → ℕ → ℕ → List ℕ → Result (List
 capsules_from left at room [] = Ok []
 capsules_from zero at room (b ∷ bytes) = Err (errors.TooLong Capsules 65537)
 capsules_from (suc left) at room (b ∷ bytes) =
-    front_at at room (b ∷ bytes) >>= λ c.
+    next_capsule at room (b ∷ bytes) >>= λ c.
     capsules_from left (at + width c) (room + capsule_room c.entry) (drop (width c) (b ∷ bytes)) >>= λ cs. Ok (c ∷ cs)
 
 -- the capsules of a file, or its first fault

@@ -1,0 +1,103 @@
+//! The program `nvmetd` over values: the words of its command line, the answer to them, its exit
+//! status. A program's `main` is `run_on_host` alone, over the real files and standard output.
+#![tactic(auto)]
+ghost use Rattle.std.specs.Prelude.{◌≡◌, ◌⊎◌, ◌↔◌, List, ℕ, Some, None, [], IfOk, IsErr, IsOkAnd, OnErr};
+ghost use Rattle.std.specs.Process.{exit_status};
+ghost use Rattle.nvmet_run.specs.Codes.{code_of, status_of};
+ghost use Rattle.nvmet_run.specs.Commands.{plan_named};
+ghost use Rattle.nvmet_run.specs.Headline.{Ran, told_by};
+ghost use Rattle.nvmet_run.specs.Outsides.{files_view, sink_view, outside, Said};
+ghost use Rattle.nvmet_run.specs.Refusals.{Refusal};
+ghost use Rattle.nvmet_run.specs.declared.status.Fault.{Fault};
+ghost use Rattle.nvmetd_program.specs.Words.{given_words, LacksMemory, memory_line};
+
+use nvmet_run::{Status, command};
+use plan_files::{Files, Gate, HostFiles, HostSink, OpenGate, Sink};
+use std::alloc::{AllocError, Global};
+use std::env::{Args, Env, args};
+use std::io;
+use std::process::ExitCode;
+use std::rt;
+use std::sync::Wait;
+use std::thread::Threads;
+
+/// The exit status of a program whose command ended so: 0 to 6 in the order of the variants.
+pub fn exit_code(status: &Status) -> ExitCode
+    ensures { exit_status result ≡ code_of status.now }
+{
+    ExitCode::from(status.code())
+}
+
+/// The words after the program's name, all of them and in their order.
+///
+/// Words of which one is no text are no command, as no words are. An error says that there was no
+/// memory for them.
+pub fn words_after_name(
+    alloc: Global,
+    args: io::Result<Args>,
+) -> Result<Vec<String>, AllocError>
+    ensures words { IfOk result (λ v. v.items ≡ given_words args) }
+    ensures memory { LacksMemory args → IsErr result }
+{
+    match args {
+        Ok(args) => args.skip(1).collect(alloc),
+        Err(error) => {
+            if error.kind() == io::ErrorKind::OutOfMemory {
+                Err(AllocError)
+            } else {
+                Ok(Vec::new(alloc))
+            }
+        }
+    }
+}
+
+/// The answer to the words of a command line: that of [`command`], or `Memory` where there was no
+/// memory for the words. Then no file is touched, and the sink takes the line that says so.
+pub fn answer<R: Wait + Threads + Sync, F: Files, K: Sink, G: Gate + Sync>(
+    rt: &R,
+    alloc: Global,
+    words: Result<Vec<String>, AllocError>,
+    files: &mut F,
+    out: &mut K,
+    gate: &G,
+) -> Status
+    // It ends well only where the words name a plan and the run theorem holds of it.
+    ensures fine { result ≡ Status.Fine → IsOkAnd words (λ v. (plan : List ℕ)
+        × (plan_named v.items ≡ Some plan)
+        × Ran (told_by (F.tells files.old) (F.told files.old))
+            (told_by (F.tells files.new) (F.told files.new)) (K.taken out.old) (K.taken out.new) plan) }
+    // The words are no command, and there was memory for them.
+    ensures usage { (result ≡ Status.Usage) ↔ IsOkAnd words (λ v. plan_named v.items ≡ None) }
+    // Another status has its cause in the run of the plan that the words name.
+    ensures refused { (f : Fault) → result ≡ status_of f → IsErr words ⊎ IsOkAnd words (λ v. (plan : List ℕ)
+        × (plan_named v.items ≡ Some plan)
+        × Refusal
+            (outside (told_by (F.tells files.old) (F.told files.old)) (F.faults files.old)
+                (F.last files.old) (K.taken out.old) (K.faults out.old))
+            (outside (told_by (F.tells files.new) (F.told files.new)) (F.faults files.new)
+                (F.last files.new) (K.taken out.new) (K.faults out.new)) plan f) }
+    ensures memory { OnErr words (result ≡ Status.Memory) }
+    ensures untouched { OnErr words
+        (files_view (told_by (F.tells files.new) (F.told files.new)) (F.faults files.new) (F.last files.new)
+        ≡ files_view (told_by (F.tells files.old) (F.told files.old)) (F.faults files.old) (F.last files.old)) }
+    ensures said { OnErr words (Said (sink_view (K.taken out.old) (K.faults out.old))
+        (sink_view (K.taken out.new) (K.faults out.new)) memory_line) }
+{
+    match words {
+        Ok(words) => command(rt, alloc, &words, files, out, gate),
+        Err(_) => {
+            let _ = out.put(b"out of memory\n");
+            Status::Memory
+        }
+    }
+}
+
+/// The whole program over the real files, standard output and the words of the command line.
+pub fn run_on_host<R: Wait + Threads + Sync + rt::Files + Print + Env + AllocGlobal>(
+    rt: &R,
+) -> ExitCode {
+    let words = words_after_name(rt.alloc(), args(rt));
+    let mut files = HostFiles::new(rt, rt.alloc());
+    let mut out = HostSink::new(rt);
+    exit_code(&answer(rt, rt.alloc(), words, &mut files, &mut out, &OpenGate))
+}

@@ -1,0 +1,8 @@
+-- One step after another, of steps that may fail.
+use Rattle.std.specs.Prelude.{Result, Ok, Err}
+
+-- the second step, of what the first gave; where the first failed, its error
+infixl 10 ◌>>=◌
+abbrev pub ◌>>=◌ : {A B E : Type 0} → Result A E → (A → Result B E) → Result B E
+(Ok x) >>= f = f x
+(Err e) >>= f = Err e
