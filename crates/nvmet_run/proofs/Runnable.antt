@@ -13,7 +13,7 @@ use Rattle.plan_files.specs.declared.items.Item.TheVariants.{Simple, Disk, Confi
 use Rattle.plan_files.specs.declared.items.Plan.{Plan}
 use Rattle.plan_files.specs.declared.items.QueueLine.{QueueLine}
 use Rattle.plan_files.specs.Spelling.{is_name, fits, fits_disk, fits_queue}
-use Rattle.plan_files.specs.Plans.{IsPlan, Adds, no_plan, with_item, item_bytes, is_complete}
+use Rattle.plan_files.specs.Plans.{IsPlan, Makes, no_plan, with_item, item_bytes, is_complete}
 use Rattle.nvmet_run.specs.Headline.{IsRunnable}
 
 and_left : (a b : Bool) → (a && b) ≡ true → a ≡ true
@@ -73,8 +73,8 @@ sound_item p (Script name) s e small = record { disks = s.disks; queues = s.queu
 sound_item p (Journal name) s e small = record { disks = s.disks; queues = s.queues }
 sound_item p (Queue q) s e small = record { disks = s.disks; queues = all-snoc (λ q. IsUtf8 q.capsules × IsUtf8 q.responses) p.queues q s.queues (texts q e) }
 
-sound_after : (lines : List (List ℕ)) (p plan : Plan) → IsSound p → Adds lines p plan → IsSound plan × (is_complete plan ≡ true)
-sound_after [] p plan s a = (subst (λ (q : Plan). IsSound q) (sym a.0) s, subst (λ (q : Plan). is_complete q ≡ true) (sym a.0) a.1)
+sound_after : (lines : List (List ℕ)) (p plan : Plan) → IsSound p → Makes lines p plan → IsSound plan
+sound_after [] p plan s a = subst (λ (q : Plan). IsSound q) (sym a) s
 sound_after (line ∷ lines) p plan s a =
     elim a [
       | inl over ↦ sound_after lines p plan s over.1
@@ -100,6 +100,6 @@ runnable_of plan (disk ∷ []) (queue ∷ []) d q simple s one other =
 pub runnable : (bytes : List ℕ) (plan : Plan) → IsPlan bytes plan → plan.simple ≡ true → IsRunnable plan
 unfolding is_complete
 runnable bytes plan is simple =
-    let s = sound_after is.lines no_plan plan (record { disks = tt; queues = tt }) is.rest in
-    let whole = rw simple at s.1 in
-    runnable_of plan plan.disks plan.queues refl refl simple s.0 (eqb-true _ _ (and_left _ _ whole)) (eqb-true _ _ (and_right _ _ whole))
+    let s = sound_after is.lines no_plan plan (record { disks = tt; queues = tt }) is.rest.0 in
+    let whole = rw simple at is.rest.1 in
+    runnable_of plan plan.disks plan.queues refl refl simple s (eqb-true _ _ (and_left _ _ whole)) (eqb-true _ _ (and_right _ _ whole))

@@ -1,5 +1,5 @@
 -- What is read of a plan was spelled so, and what is spelled so is read.
-use Rattle.std.proofs.Common.{◌≡◌, ◌⊎◌, ◌≤◌, ℕ, Bool, true, false, cond, ◌&&◌, ltb, List, [], ◌∷◌, length, Option, Some, None, Result, Ok, Err, refl, sym, ap, subst, inl, inr}
+use Rattle.std.proofs.Common.{◌≡◌, ◌⊎◌, ◌≤◌, ◌^◌, ℕ, suc, ◌+◌, ◌-◌, min, Bool, true, false, cond, ◌&&◌, ltb, List, [], ◌∷◌, ◌++◌, length, Option, Some, None, Result, Ok, Err, refl, sym, ap, subst, inl, inr, arith}
 use Rattle.std.specs.Prelude.{codes, IfOk}
 use Rattle.std.specs.Str.{bytes_eq}
 use Rattle.std.proofs.lemmas.Bool.{ltb-false, le-ltb}
@@ -10,7 +10,7 @@ use Rattle.plan_files.specs.declared.plan.PlanError.{PlanError}
 use Rattle.plan_files.specs.declared.plan.PlanError.TheVariants as errors
 use Rattle.plan_files.specs.Lines.{lines_of}
 use Rattle.plan_files.specs.Spelling.{item_in}
-use Rattle.plan_files.specs.Plans.{IsPlan, Adds, IsAllowed, no_plan, with_item, is_new, agrees, within, item_bytes, total_of, is_complete, is_passed_over}
+use Rattle.plan_files.specs.Plans.{IsPlan, Makes, Adds, IsAllowed, no_plan, with_item, is_new, agrees, within, item_bytes, total_of, is_complete, is_passed_over}
 use Rattle.plan_files.specs.Binding.{◌>>=◌}
 use Rattle.plan_files.specs.PlanReading.{Gives, item_taken, said_taken, line_taken, next_line, plan_from, plan_by, plan_in}
 use Rattle.plan_files.proofs.Wording.{and-parts}
@@ -61,37 +61,63 @@ item_taken_was n p q item e =
     let w = within_was (with_item p item) q (item_bytes item) t.1 in
     (record { new = both.0; agrees = both.1; disks = w.0.disks; bytes = w.0.bytes_few; total = w.0.total; queues = w.0.queues }, w.1)
 
-item_is_taken : (n : ℕ) (p : Plan) (item : Item) → IsAllowed p item → item_taken n p item ≡ Ok (with_item p item)
+pub item_is_taken : (n : ℕ) (p : Plan) (item : Item) → IsAllowed p item → item_taken n p item ≡ Ok (with_item p item)
 unfolding item_taken
 item_is_taken n p item a =
     let w : IsWithin (with_item p item) (item_bytes item) = record { disks = a.disks; bytes_few = a.bytes; total = a.total; queues = a.queues } in
     rw (a.new, a.agrees) (is_within (with_item p item) (item_bytes item) w)
 
-said_taken_was : (n : ℕ) (p q : Plan) (said : Option Item) → said_taken n p said ≡ Ok q → (item : Item) × (said ≡ Some item) × IsAllowed p item × (with_item p item ≡ q)
+pub said_taken_was : (n : ℕ) (p q : Plan) (said : Option Item) → said_taken n p said ≡ Ok q → (item : Item) × (said ≡ Some item) × IsAllowed p item × (with_item p item ≡ q)
 said_taken_was n p q None e = absurd cc
 said_taken_was n p q (Some item) e = let t = item_taken_was n p q item e in (item, refl, t.0, t.1)
 
 pub are_added : (n : ℕ) (p plan : Plan) (lines : List (List ℕ)) → plan_from n p lines ≡ Ok plan → Adds lines p plan
 unfolding plan_from line_taken
-are_added n p plan [] e = let t = then_ok (is_complete p) (Ok p) (errors.BadLine n) plan e in (cc, t.0)
+are_added n p plan [] e =
+    let t = then_ok (is_complete p) (Ok p) (errors.BadLine n) plan e in
+    let same : plan ≡ p = cc in
+    (same, rw same t.0)
 are_added n p plan (line ∷ lines) e =
     let b = bind_ok (cond (is_passed_over line) (Ok p) (said_taken n p (item_in line))) (λ q. plan_from (next_line n) q lines) plan e in
     let rest = are_added (next_line n) b.0 plan lines b.2 in
+    let made : Makes (line ∷ lines) p plan =
     elim (either_ok (is_passed_over line) (Ok p) (said_taken n p (item_in line)) b.0 b.1) [
-      | inl over ↦ let same : b.0 ≡ p = cc in inl (over.0, subst (λ (q : Plan). Adds lines q plan) same rest)
+      | inl over ↦ let same : b.0 ≡ p = cc in inl (over.0, subst (λ (q : Plan). Makes lines q plan) same rest.0)
       | inr said ↦
           let t = said_taken_was n p b.0 (item_in line) said.1 in
           let was = item_was line t.0 t.1 in
-          inr (said.0, t.0, was.0, was.1, t.2, subst (λ (q : Plan). Adds lines q plan) (sym t.3) rest)
+          inr (said.0, t.0, was.0, was.1, t.2, subst (λ (q : Plan). Makes lines q plan) (sym t.3) rest.0)
+    ] in
+    (made, rest.1)
+
+-- the numbers of lines stand still here
+abbrev pub last_number : ℕ
+last_number = 2 ^ 32 - 1
+
+-- lines that make a plan leave the rest to be read after them
+pub goes_over : (n : ℕ) (p q : Plan) (before rest : List (List ℕ)) → n ≤ last_number → Makes before p q
+    → plan_from n p (before ++ rest) ≡ plan_from (min (n + length before) last_number) q rest
+unfolding plan_from line_taken
+goes_over n p q [] rest le made =
+    let here : min (n + 0) last_number ≡ n = omega (arith, le) in
+    rw (made, here) refl
+goes_over n p q (line ∷ before) rest le made =
+    let next : next_line n ≤ last_number = omega arith in
+    let number : min (next_line n + length before) last_number ≡ min (n + suc (length before)) last_number = omega (arith, le) in
+    elim made [
+      | inl over ↦ rw (over.0, ← number) (goes_over (next_line n) p q before rest next over.1)
+      | inr said ↦ rw (said.0, item_read line said.1 said.2 said.3, item_is_taken n p said.1 said.4, ← number) (goes_over (next_line n) (with_item p said.1) q before rest next said.5)
     ]
 
 pub are_taken : (n : ℕ) (p plan : Plan) (lines : List (List ℕ)) → Adds lines p plan → plan_from n p lines ≡ Ok plan
 unfolding plan_from line_taken
-are_taken n p plan [] a = rw a.1 (ap (λ (q : Plan). Ok q) (sym a.0))
+are_taken n p plan [] a =
+    let full : is_complete p ≡ true = rw a.0 at a.1 in
+    rw full (ap (λ (q : Plan). Ok q) (sym a.0))
 are_taken n p plan (line ∷ lines) a =
-    elim a [
-      | inl over ↦ rw over.0 (are_taken (next_line n) p plan lines over.1)
-      | inr said ↦ rw (said.0, item_read line said.1 said.2 said.3, item_is_taken n p said.1 said.4) (are_taken (next_line n) (with_item p said.1) plan lines said.5)
+    elim a.0 [
+      | inl over ↦ rw over.0 (are_taken (next_line n) p plan lines (over.1, a.1))
+      | inr said ↦ rw (said.0, item_read line said.1 said.2 said.3, item_is_taken n p said.1 said.4) (are_taken (next_line n) (with_item p said.1) plan lines (said.5, a.1))
     ]
 
 -- lines whose first is the head of a plan

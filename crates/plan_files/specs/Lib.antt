@@ -15,3 +15,4 @@ pub mod CapsuleFaults
 pub mod Records
 pub mod Stored
 pub mod Adapters
+pub mod PlanFaults

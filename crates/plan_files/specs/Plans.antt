@@ -98,11 +98,15 @@ pub record IsAllowed (p : Plan) (item : Item) : Type 0 where
   pub queues : length (with_item p item).queues ≤ 31
 
 -- these lines make the first plan the second: each is passed over, or spells an item that may be added
+abbrev pub Makes : List (List ℕ) → Plan → Plan → Type 0
+Makes [] p q = q ≡ p
+Makes (line ∷ lines) p q =
+    ((is_passed_over line ≡ true) × Makes lines p q)
+    ⊎ ((is_passed_over line ≡ false) × (item : Item) × (line ≡ spelling item) × (fits item ≡ true) × IsAllowed p item × Makes lines (with_item p item) q)
+
+-- they make it a plan in which nothing is missing
 abbrev pub Adds : List (List ℕ) → Plan → Plan → Type 0
-Adds [] p plan = (plan ≡ p) × (is_complete p ≡ true)
-Adds (line ∷ lines) p plan =
-    ((is_passed_over line ≡ true) × Adds lines p plan)
-    ⊎ ((is_passed_over line ≡ false) × (item : Item) × (line ≡ spelling item) × (fits item ≡ true) × IsAllowed p item × Adds lines (with_item p item) plan)
+Adds lines p plan = Makes lines p plan × (is_complete plan ≡ true)
 
 -- the plan in these bytes
 pub record IsPlan (bytes : List ℕ) (plan : Plan) : Type 0 where

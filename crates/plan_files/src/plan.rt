@@ -1,11 +1,13 @@
 // Plans, line after line.
-ghost use Rattle.std.specs.Prelude.{◌≡◌, ◌⊎◌, ◌*◌, ◌^◌, ◌<◌, ◌≤◌, ◌+◌, ◌∷◌, ◌||◌, ◌&&◌, ◌==◌, not, true, length, IfOk, OnOk, OnErr, Ok, Err};
+ghost use Rattle.std.specs.Prelude.{◌≡◌, ◌≢◌, ◌⊎◌, ◌*◌, ◌^◌, ◌<◌, ◌≤◌, ◌+◌, ◌∷◌, ◌||◌, ◌&&◌, ◌==◌, not, true, length, IfOk, IfErr, OnOk, OnErr, Ok, Err};
 ghost use Rattle.std.specs.List.{list_any, list_all};
 ghost use Rattle.std.specs.Str.{bytes_eq};
 ghost use Rattle.plan_files.specs.Lines.{lines_of};
 ghost use Rattle.plan_files.specs.Spelling.{fits};
 ghost use Rattle.plan_files.specs.Plans.{IsPlan, no_plan, with_item, has_name, is_free, is_new, agrees, is_complete, item_bytes, total_of, within, is_passed_over};
 ghost use Rattle.plan_files.specs.declared.items.Plan as file;
+ghost use Rattle.plan_files.specs.PlanFaults.{FirstFault};
+ghost use Rattle.plan_files.specs.declared.plan.PlanError as file_error;
 ghost use Rattle.plan_files.specs.PlanReading.{Fails, Leaves, Gives, item_taken, line_taken, plan_from, plan_in};
 ghost use Rattle.plan_files.specs.declared.plan.PlanError.TheVariants.{Memory, BadLine, TooLong};
 
@@ -357,6 +359,9 @@ pub fn read_plan(alloc: Global, bytes: &[u8]) -> Result<Plan, PlanError>
     ensures only { (plan : file.Plan) → IsPlan bytes.now plan → Gives result (Ok plan) }
     // Which fault it is.
     ensures exact { Gives result (plan_in bytes.now) }
+    // The error is the file's first fault, and its first fault the error, unless memory runs out.
+    ensures fault { IfErr result (λ e. e ≢ Memory → FirstFault bytes.now e) }
+    ensures faults { (e : file_error.PlanError) → FirstFault bytes.now e → Gives result (Err e) }
 {
     whole_plan(alloc, bytes)
 }
