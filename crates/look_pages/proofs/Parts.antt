@@ -109,3 +109,6 @@ unfolding window
 window-all page n len =
     ext_get_or 0 (map (λ i. get_or page i 0) (range_with_len 0 n)) page (length-map-range_with_len (λ (i : ℕ). get_or page i 0) 0 n ∙ sym len)
     (λ i low. get_or-map-range_with_len (λ (j : ℕ). get_or page j 0) 0 n i i 0 (omega (arith, low, length-map-range_with_len (λ (j : ℕ). get_or page j 0) 0 n)) (omega arith))
+
+pub window_all : (page : List ℕ) (n : ℕ) → length page ≡ n → window 0 n page ≡ page
+window_all page n len = window-all page n len

@@ -3,6 +3,8 @@
 #![tactic(auto)]
 
 #[cfg(test)]
+mod event_rows;
+#[cfg(test)]
 mod list_rows;
 mod world;
 
