@@ -1,0 +1,5 @@
+pub mod Notices
+pub mod Stamps
+pub mod Waits
+pub mod Laws
+pub mod Features

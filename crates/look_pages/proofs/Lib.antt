@@ -1,0 +1,4 @@
+pub mod Walks
+pub mod Parts
+pub mod Placed
+pub mod Ranges
