@@ -1,4 +1,5 @@
 //! What is counted over all seats and parts.
+use ref_rule::Tag;
 use ref_rule::state::{By, Entry, Hold, Section, State, View};
 
 #[derive(Clone, Copy)]
@@ -8,7 +9,11 @@ pub enum EntryTest {
     Published,
     At(u32),
     GotAt(u32),
+    /// At this place, with this call.
+    GotBy(u32, Tag),
     SubmitGot(u32),
+    /// At this place, with the caller and the number of this call.
+    SubmitNamed(u32, Tag),
     BareGot(u32),
     ExecuteOf(u32),
 }
@@ -22,7 +27,12 @@ impl EntryTest {
             EntryTest::Published => matches!(e.by, By::Publish),
             EntryTest::At(k) => e.place == k,
             EntryTest::GotAt(k) => e.place == k && e.got,
+            EntryTest::GotBy(k, call) => e.place == k && e.got && e.call == call,
             EntryTest::SubmitGot(k) => e.place == k && e.got && !bare,
+            EntryTest::SubmitNamed(k, call) => {
+                let named = e.call.caller == call.caller && e.call.number == call.number;
+                e.place == k && e.got && !bare && named
+            }
             EntryTest::BareGot(k) => e.place == k && e.got && bare,
             EntryTest::ExecuteOf(k) => match e.by {
                 By::Execute(of) => of == k,

@@ -37,6 +37,16 @@ fn view_agrees(s: &State, view: &View) -> bool {
     own && view.seen <= s.given && view.entries.as_slice().iter().all(|e| entry_agrees(s, e))
 }
 
+// It has seen the places of all that it keeps.
+fn knows_its_own(view: &View) -> bool {
+    let own = match &view.section {
+        Section::Placed(e) => e.place < view.seen,
+        _ => true,
+    };
+    own && view.entries.as_slice().iter().all(|e| e.place < view.seen)
+        && view.holds.as_slice().iter().all(|h| h.place < view.seen)
+}
+
 fn places_left(s: &State) -> u64 {
     let mut sum: u64 = 0;
     for view in s.views.as_slice() {
@@ -66,7 +76,10 @@ fn each_place_once(s: &State) -> bool {
 /// The places given are those of the entries, each with the serial of its place.
 pub fn places_and_serials(s: &State) -> bool {
     each_place_once(s)
-        && s.views.as_slice().iter().all(|v| view_agrees(s, v))
+        && s.views
+            .as_slice()
+            .iter()
+            .all(|v| view_agrees(s, v) && knows_its_own(v))
         && s.editor.published.len() == s.serial as usize
         && entries(s, EntryTest::Published) == s.serial as usize
         && serials_rise(s)
@@ -168,5 +181,5 @@ pub fn grace_period(s: &State) -> bool {
             return false;
         }
     }
-    s.views.len() >= s.seats as usize
+    s.views.len() >= s.seats as usize && s.editor.marks.len() == s.seats as usize
 }

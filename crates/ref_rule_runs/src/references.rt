@@ -60,8 +60,19 @@ fn folded_count(disk: &Disk, drain: &Drain, on: u64) -> bool {
     }
 }
 
-// Each hold that stands is that of one entry whose section got it.
+// To each hold there is one entry at its place, with its call, whose section got it.
+fn belong(s: &State, view: &View) -> bool {
+    view.holds
+        .as_slice()
+        .iter()
+        .all(|h| entries(s, EntryTest::GotBy(h.place, h.call)) == 1)
+}
+
+// Each hold that stands is that of one entry whose section got it, and no two are of the same.
 fn holds_of_one(s: &State) -> bool {
+    if !s.views.as_slice().iter().all(|v| belong(s, v)) {
+        return false;
+    }
     for k in 0..s.given {
         if holds(s, HoldTest::GotBy(k)) > entries(s, EntryTest::GotAt(k)) {
             return false;
@@ -149,6 +160,11 @@ fn loaded_fits(s: &State, i: usize, view: &View) -> bool {
     }
 }
 
+// Each seat has a mark and a counter that may be looked at.
+fn are_wide(s: &State, drain: &Drain) -> bool {
+    drain.marks.len() == s.seats as usize && drain.looked.len() == s.seats as usize
+}
+
 // A counter that was looked at since the kill stands as it was looked at.
 fn looked_stand(s: &State, disk: &Disk, drain: &Drain) -> bool {
     let mut any = false;
@@ -166,7 +182,7 @@ fn looked_stand(s: &State, disk: &Disk, drain: &Drain) -> bool {
 fn mode_fits(s: &State, disk: &Disk, drain: &Drain) -> bool {
     let live = matches!(drain.phase, Phase::Live);
     let killed = matches!(drain.phase, Phase::Killed);
-    (disk.mode == 0) == live && (!killed || looked_stand(s, disk, drain))
+    (disk.mode == 0) == live && (!killed || (are_wide(s, drain) && looked_stand(s, disk, drain)))
 }
 
 /// The mode is live in the phase live alone, and a loaded one is still good for one step.

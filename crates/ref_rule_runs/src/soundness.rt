@@ -1,7 +1,7 @@
 //! The nine parts of soundness, looked at in plain loops over the state.
 use crate::counts::{EntryTest, HoldTest, entries, holds};
 use crate::{grace, references};
-use ref_rule::state::{State, View};
+use ref_rule::state::{By, Entry, State, View};
 
 fn turns_of(view: &View, slot: usize) -> usize {
     view.turns
@@ -17,6 +17,11 @@ fn holders(s: &State, slot: usize) -> usize {
         n = n.saturating_add(turns_of(view, slot));
     }
     n
+}
+
+// A seat has the number of its place, a part that of a seat.
+fn is_numbered(s: &State, i: usize, view: &View) -> bool {
+    view.number < s.seats && (i >= s.seats as usize || view.number as usize == i)
 }
 
 // Each turn that the view has names its seat.
@@ -36,7 +41,7 @@ fn turns_owned(s: &State) -> bool {
         }
     }
     for (i, view) in s.views.as_slice().iter().enumerate() {
-        if !owns(s, i, view) {
+        if !owns(s, i, view) || !is_numbered(s, i, view) {
             return false;
         }
     }
@@ -50,7 +55,25 @@ fn one_hold_at(s: &State, k: u32) -> bool {
         && holds(s, HoldTest::Bare(k)) <= entries(s, EntryTest::BareGot(k))
 }
 
+// It is no Execute, or one of one submit, whose caller and number it has.
+fn names_its_submit(s: &State, e: &Entry) -> bool {
+    match e.by {
+        By::Execute(of) => entries(s, EntryTest::SubmitNamed(of, e.call)) == 1,
+        _ => true,
+    }
+}
+
+fn name_their_submits(s: &State, view: &View) -> bool {
+    view.entries
+        .as_slice()
+        .iter()
+        .all(|e| names_its_submit(s, e))
+}
+
 fn one_hold_per_submit(s: &State) -> bool {
+    if !s.views.as_slice().iter().all(|v| name_their_submits(s, v)) {
+        return false;
+    }
     for k in 0..s.given {
         if !one_hold_at(s, k) {
             return false;
