@@ -19,12 +19,15 @@ from nvmet_formats import (
 
 BLOCK_SIZES = (512, 4096)
 RAW = Command("raw", None, None, [Field("fctype", *FCTYPE)], BY_DATA)
+LONGEST_NUMBER = 40  # digits; no field has more than 20
 FLAGS = 0x40  # an SGL, and no fused command
-PLAIN_NAMES = re.compile(b"[!-~]*")
+PLAIN_NAME = re.compile(b"[!-~]*")
 
 
 def number(text):
     """A number: 10, 0x0A or 0Ah."""
+    if len(text) > LONGEST_NUMBER:
+        raise Bad("'%s..' is no number of any field" % text[:LONGEST_NUMBER])
     if re.fullmatch("[0-9]+", text):
         return int(text)
     if re.fullmatch("0[xX][0-9a-fA-F]+", text):
@@ -250,7 +253,7 @@ def words_of(line):
 def parse_line(words):
     """How often, the command, and its fields by name."""
     repeat = re.fullmatch("([0-9]+)x", words[0])
-    times = int(repeat.group(1)) if repeat else 1
+    times = number(repeat.group(1)) if repeat else 1
     words = words[1:] if repeat else words
     if not words or times < 1:
         raise Bad("a repeat is a number from 1, 'x', and a command")
@@ -329,17 +332,19 @@ def data_text(data):
 
 def connect_words(data):
     """The fields of Connect data as words, or the data as they are where names say less."""
-    words = {}
-    if len(data) != CONNECT_BYTES or not PLAIN_NAMES.fullmatch(data[256:768].replace(b"\0", b"")):
+    if len(data) != CONNECT_BYTES:
         return {"data": data_text(data)} if data else {}
+    words = {}
     for name, (offset, size) in CONNECT_FIELDS.items():
         part = data[offset:offset + size]
         if name == "cntlid":
             words[name] = shown("value", int.from_bytes(part, "little"))
         elif name == "hostid":
             words.update({name: part.hex()} if any(part) else {})
-        elif part.rstrip(b"\0"):
-            words[name] = part.rstrip(b"\0").decode("latin-1")
+        elif not PLAIN_NAME.fullmatch(part.rstrip(b"\0")):
+            return {"data": data_text(data)}
+        elif any(part):
+            words[name] = part.rstrip(b"\0").decode("ascii")
     return words
 
 

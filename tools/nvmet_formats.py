@@ -332,7 +332,8 @@ def text_lines(blob):
 
 def small(text, limit=1 << 32):
     """A decimal number below a limit, or None."""
-    return int(text) if re.fullmatch(NUMBER, text) and int(text) < limit else None
+    fits = len(text) <= len(str(limit)) and re.fullmatch(NUMBER, text)
+    return int(text) if fits and int(text) < limit else None
 
 
 def read_journal(blob):

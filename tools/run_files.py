@@ -49,7 +49,7 @@ def read_run(name):
     plan = inside(name, read_plan)
     calls, queues, places = [], [], 0
     if plan.journal:
-        script = inside(plan.script, text_lines) if plan.script else []
+        script = [printable(line) for line in inside(plan.script, text_lines)] if plan.script else []
         places, edits = inside(plan.journal, read_journal)
         calls += [edit_call(edit, script) for edit in edits]
     block_size = 1 << plan.disks[0].shift if plan.disks else 512
@@ -71,6 +71,11 @@ def fault_of_places(run):
         if call.place != number:
             return "place %d is %s" % (min(number, call.place), "missing" if call.place > number else "there twice")
     return "place %d is missing" % len(run.calls) if len(run.calls) < run.places else None
+
+
+def printable(text):
+    """A text with a question mark for each byte that a terminal or an SVG may take amiss."""
+    return "".join(letter if " " <= letter <= "~" else "?" for letter in text)
 
 
 def edit_call(edit, script):

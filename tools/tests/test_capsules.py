@@ -166,7 +166,7 @@ def random_capsule(draw):
         return number.to_bytes(64, "little")
     names = bytearray(length)
     for at in (256, 512):
-        names[at:at + 9] = draw.choice([b"nqn.a", b"#a b", b"\n\x85\xa0", b""]).ljust(9, b"\0")
+        names[at:at + 9] = draw.choice([b"nqn.a", b"#a b", b"\n\x85\xa0", b"a\0b", b""]).ljust(9, b"\0")
     data = draw.choice([bytes(length), capsule_text.pattern(draw.randrange(256), draw.randrange(256), length),
                         bytes(draw.getrandbits(8) for _ in range(length)), bytes(names[:length])])
     return number.to_bytes(64, "little") + data
@@ -175,6 +175,7 @@ def random_capsule(draw):
 class RoundTrip(unittest.TestCase):
     def again(self, blob, block_size=512):
         text = capsule_text.say(blob, block_size)
+        self.assertRegex(text, "^[ -~\n]*$")
         self.assertEqual(capsule_text.build(text).hex(), blob.hex())
         return text
 

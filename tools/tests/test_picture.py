@@ -99,6 +99,13 @@ class Pictures(unittest.TestCase):
             self.assert_inside(root)
             self.assertEqual(any("never executed" in title for title in titles), bool(records))
 
+    def test_a_script_with_control_bytes(self):
+        make_run(".", commands=4)
+        with open("s", "wb") as file:
+            file.write(b"set \x1b[31m\x00<&\xff\n")
+        _, _, titles = self.draw()
+        self.assertTrue(any("set ?[31m?<&?" in title for title in titles))
+
     def test_the_command(self):
         make_run(".", commands=4)
         status, out, _ = run_tool(".", "picture", "plan", "-o", "p.svg")

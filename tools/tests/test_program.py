@@ -1,4 +1,4 @@
-"""The program itself, where it is built: the README's ten lines, and the statuses of examples/statuses."""
+"""The program itself, where it is built: the README's ten lines, and examples/statuses with its picture."""
 
 import json
 import os
@@ -50,6 +50,9 @@ class Program(unittest.TestCase):
         answers = [json.loads(row) for row in out.splitlines()]
         found = [one["completion"]["status"]["name"] for one in answers if one["answer"] == "answered"]
         self.assertEqual(found, [NAMES.get(name, name) for name in wanted])
+        _, out, _ = run_tool(self.folder.name, "picture", "plan")
+        with open(os.path.join(REPOSITORY, "docs", "statuses.svg"), encoding="utf-8") as file:
+            self.assertEqual(out, file.read(), "docs/statuses.svg is another picture")
 
 
 if __name__ == "__main__":
