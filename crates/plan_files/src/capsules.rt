@@ -11,6 +11,7 @@ ghost use Rattle.plan_files.specs.declared.capsules.CapsuleError.TheVariants.{Me
 use crate::limits::What;
 use sqe_cqe::{Direction, Sqe, data_len, direction, read_sqe};
 use std::alloc::{AllocFailed, Global};
+use thiserror::Error;
 
 /// How many capsules one queue file has at most.
 pub const MAX_CAPSULES: usize = 65_536;
@@ -34,14 +35,17 @@ pub struct Capsule {
 }
 
 /// Why a capsule file was not read.
-#[derive(Clone, Copy, Debug, PartialEq, Eq)]
+#[derive(Clone, Copy, Debug, PartialEq, Eq, Error)]
 pub enum CapsuleError {
     /// An entry or its data run past the end of the file. The offset is that of the capsule's first
     /// byte.
+    #[error("the capsule at byte {offset} is cut off")]
     Cut { offset: u64 },
     /// A limit is passed; the count is the counted number where it first passes it.
+    #[error("the limit on {what} is passed: {count}")]
     TooLong { what: What, count: u64 },
     /// No memory for the capsules.
+    #[error("out of memory")]
     Memory,
 }
 

@@ -13,9 +13,10 @@ ghost use Rattle.plan_files.specs.declared.plan.PlanError.TheVariants.{Memory, B
 
 use crate::items::{DiskLines, Item, Plan, QueueLine, QueueLines};
 use crate::limits::What;
-use crate::line_items::line_item;
+use crate::line_items::{first_at, line_item};
 use mem_bdev::Name;
 use std::alloc::{AllocError, AllocFailed, Global};
+use thiserror::Error;
 
 /// How many disks a plan has at most.
 pub const MAX_DISKS: usize = 64;
@@ -30,16 +31,19 @@ pub const MAX_ALL_DISK_BYTES: u64 = 268_435_456;
 pub const MAX_QUEUES: usize = 31;
 
 /// Why a plan was not read.
-#[derive(Clone, Copy, Debug, PartialEq, Eq)]
+#[derive(Clone, Copy, Debug, PartialEq, Eq, Error)]
 pub enum PlanError {
     /// A line is bad: of no known form, one too many of its kind, with a disk path or a file name
     /// that stands already, or forbidden by `simple`. The number counts from 1, passed over lines
     /// among them, and stands still at 4,294,967,295. What is missing at the end is missed on the
     /// line after the last.
+    #[error("line {line} is bad")]
     BadLine { line: u32 },
     /// A limit is passed; the count is the counted number where it first passes it.
+    #[error("the limit on {what} is passed: {count}")]
     TooLong { what: What, count: u64 },
     /// No memory for the plan.
+    #[error("out of memory")]
     Memory,
 }
 
@@ -77,14 +81,9 @@ fn cut_line(bytes: &[u8]) -> (&[u8], &[u8])
     ensures line { lines_of bytes.now ≡ result.0.now ∷ lines_of result.1.now }
     ensures shorter { length result.1.now < length bytes.now }
 {
-    let mut end = 0;
-    while end < bytes.len() && bytes[end] != 10 {
-        end += 1;
-    }
-    if end < bytes.len() {
-        (&bytes[..end], &bytes[end + 1..])
-    } else {
-        (bytes, &bytes[end..])
+    match first_at(bytes, b'\n') {
+        Some(end) => (&bytes[..end], &bytes[end + 1..]),
+        None => (bytes, &[]),
     }
 }
 
@@ -93,7 +92,7 @@ fn is_passed_over(line: &[u8]) -> bool
 {
     match line {
         [] => true,
-        [first, ..] => *first == 35,
+        [first, ..] => *first == b'#',
     }
 }
 
