@@ -216,9 +216,9 @@ fn item_bytes(item: &Item) -> u64
 #[tactic(auto, unfolding(crate::specs::Plans::within))]
 fn within(plan: &Plan, bytes: u64, before: u64) -> Result<u64, PlanError>
     requires total { total_of plan.now.disks ≡ before + bytes }
-    requires small { before ≤ 268435456 }
+    requires small { before ≤ MAX_ALL_DISK_BYTES }
     ensures exact { Leaves plan.now result (within plan.now bytes) }
-    ensures total { IfOk result (λ total. (total ≡ total_of plan.now.disks) × (total ≤ 268435456)) }
+    ensures total { IfOk result (λ total. (total ≡ total_of plan.now.disks) × (total ≤ MAX_ALL_DISK_BYTES)) }
 {
     let disks = plan.disks.as_slice().len();
     if disks > MAX_DISKS {
@@ -271,10 +271,10 @@ fn empty_plan(alloc: Global) -> Plan
 #[tactic(auto, unfolding(crate::specs::PlanReading::item_taken))]
 fn take_item(plan: &mut Plan, before: u64, line: u32, item: Item) -> Result<u64, PlanError>
     requires total { before ≡ total_of plan.old.disks }
-    requires small { before ≤ 268435456 }
+    requires small { before ≤ MAX_ALL_DISK_BYTES }
     requires fits { fits item ≡ true }
     ensures exact { Leaves plan.new result (item_taken line plan.old item) }
-    ensures total { IfOk result (λ total. (total ≡ total_of plan.new.disks) × (total ≤ 268435456)) }
+    ensures total { IfOk result (λ total. (total ≡ total_of plan.new.disks) × (total ≤ MAX_ALL_DISK_BYTES)) }
 {
     if !is_new(plan, &item) {
         return Err(bad_line(line));
@@ -297,9 +297,9 @@ fn take_line(
     line: &[u8],
 ) -> Result<u64, PlanError>
     requires total { before ≡ total_of plan.old.disks }
-    requires small { before ≤ 268435456 }
+    requires small { before ≤ MAX_ALL_DISK_BYTES }
     ensures exact { Leaves plan.new result (line_taken number plan.old line.now) }
-    ensures total { IfOk result (λ total. (total ≡ total_of plan.new.disks) × (total ≤ 268435456)) }
+    ensures total { IfOk result (λ total. (total ≡ total_of plan.new.disks) × (total ≤ MAX_ALL_DISK_BYTES)) }
 {
     if is_passed_over(line) {
         return Ok(before);
