@@ -1,16 +1,13 @@
 -- The words of the command line.
-use Rattle.std.specs.Prelude.{ℕ, ◌==◌, ◌&&◌, not, nat_lt, Bool, if◌then◌else◌, List, [], ◌∷◌, length, codes, Option, Some, None, string_bytes, String, slice_index}
-use Rattle.std.specs.List.{list_all}
+use Rattle.std.specs.Prelude.{ℕ, nat_eq, ◌&&◌, not, Bool, if◌then◌else◌, List, [], ◌∷◌, codes, Option, Some, None, string_bytes, String}
+use Rattle.std.specs.List.{starts_with}
+use Rattle.plan_files.specs.Spelling.{is_name}
 use Rattle.std.specs.Str.{bytes_eq}
 use Rattle.std.specs.declared.alloc.Global.{Global}
 
--- a byte from 21h to 7Eh
-abbrev pub is_visible : ℕ → Bool
-is_visible b = nat_lt 32 b && nat_lt b 127
-
--- a name of 1 to 255 visible bytes that doesn't begin as an option does
+-- a name that doesn't begin as an option does
 abbrev pub is_plan_name : List ℕ → Bool
-is_plan_name name = nat_lt 0 (length name) && nat_lt (length name) 256 && list_all is_visible name && not (slice_index name 0 == 45)
+is_plan_name name = is_name name && not (starts_with nat_eq name (codes "-"))
 
 -- the plan's name in the two words `run` and a name
 abbrev pub plan_named : List (String Global) → Option (List ℕ)

@@ -11,6 +11,7 @@ use Rattle.plan_files.specs.Lines.{lines_of}
 use Rattle.plan_files.specs.PlanReading.{plan_in}
 use Rattle.plan_files.specs.Capsules.{Capsule}
 use Rattle.plan_files.specs.CapsuleReading.{capsules_of}
+use Rattle.nvmet_run.specs.declared.files.TheConstants.{MAX_PLAN_BYTES, MAX_QUEUE_BYTES}
 use Rattle.nvmet_run.specs.declared.status.At.TheVariants as at
 use Rattle.nvmet_run.specs.declared.status.FileNo.{FileNo}
 use Rattle.nvmet_run.specs.declared.status.TheConstants.{PLAN, CAPSULES}
@@ -37,7 +38,7 @@ simple_plan_in bytes = if_simple (length (lines_of bytes) + 1) (plan_in bytes)
 
 -- the plan in a file of at most 64 KiB
 abbrev pub plan_of_file : List ℕ → Result Plan Fault
-plan_of_file bytes = content_of 65536 PLAN bytes >>= simple_plan_in
+plan_of_file bytes = content_of MAX_PLAN_BYTES PLAN bytes >>= simple_plan_in
 
 -- ---- capsules
 abbrev pub capsule_error : CapsuleError → Fault
@@ -54,4 +55,4 @@ capsules_in_bytes bytes = or_fault (capsules_of bytes)
 
 -- the capsules in a file of at most 64 MiB
 abbrev pub capsules_of_file : List ℕ → Result (List Capsule) Fault
-capsules_of_file bytes = content_of 67108864 CAPSULES bytes >>= capsules_in_bytes
+capsules_of_file bytes = content_of MAX_QUEUE_BYTES CAPSULES bytes >>= capsules_in_bytes

@@ -1,5 +1,5 @@
 // Reading and writing the files of a run.
-ghost use Rattle.std.specs.Prelude.{◌≡◌, ◌≢◌, ◌≤◌, ◌-◌, ◌==◌, ℕ, List, All, length, count_by, false, not, slice_get, IsUtf8, OnOk, IfOk, IfErr};
+ghost use Rattle.std.specs.Prelude.{◌≡◌, ◌≢◌, ◌≤◌, ◌+◌, ◌-◌, ◌==◌, ℕ, List, All, length, count_by, false, not, slice_get, IsUtf8, OnOk, IfOk, IfErr};
 ghost use Rattle.std.specs.Option.{option_map_or};
 ghost use Rattle.plan_files.specs.Capsules.{AreCapsules, IsWholeIn, capsules_in};
 ghost use Rattle.plan_files.specs.Lines.{lines_of};
@@ -12,7 +12,7 @@ ghost use Rattle.nvmet_run.specs.Refusals.{FileRefused, Gives, Refuses, WriteRef
 use crate::status::{At, CAPSULES, Fault, FileNo, PLAN, RESPONSES, SINK};
 use mem_bdev::Name;
 use plan_files::{
-    Capsule, CapsuleError, FileError, Files, Plan, PlanError, Sink, What, WriteError,
+    Capsule, CapsuleError, FileError, Files, MAX_CAPSULES, Plan, PlanError, Sink, What, WriteError,
     read_capsules, read_plan,
 };
 use std::alloc::Global;
@@ -31,7 +31,7 @@ fn content_of<F: Files>(
     file: FileNo,
     files: &mut F,
 ) -> Result<Vec<u8>, Fault>
-    requires { limit ≤ 67108864 }
+    requires { limit ≤ MAX_QUEUE_BYTES }
     ensures told { IfOk result (λ v. HoldsOf (told_by (F.tells files.old) (F.told files.old)) name.now v.items) }
     ensures short { IfOk result (λ v. length v.items ≤ limit) }
     ensures refused { IfErr result (λ f. FileRefused file name.now (content_of limit file) (files_view (told_by (F.tells files.old) (F.told files.old)) (F.faults files.old) (F.last files.old)) (files_view (told_by (F.tells files.new) (F.told files.new)) (F.faults files.new) (F.last files.new)) f) }
@@ -104,9 +104,9 @@ fn is_open(bytes: &[u8]) -> bool
 
 // How many lines a text has: each ends with byte 0Ah, and the last may lack it.
 fn line_count(bytes: &[u8]) -> u32
-    requires { length bytes.now ≤ 65536 }
+    requires { length bytes.now ≤ MAX_PLAN_BYTES }
     ensures value { result ≡ length (lines_of bytes.now) }
-    ensures few { result ≤ 65537 }
+    ensures few { result ≤ MAX_PLAN_BYTES + 1 }
 {
     let ended = line_ends(bytes) as u32;
     if is_open(bytes) { ended + 1 } else { ended }
@@ -115,7 +115,7 @@ fn line_count(bytes: &[u8]) -> u32
 // The simple plan in these bytes. Another plan is refused on the line after its last, since no other is run yet.
 #[tactic(auto, unfolding(crate::specs::Reading::simple_plan_in))]
 fn plan_of(alloc: Global, bytes: &[u8]) -> Result<Plan, Fault>
-    requires { length bytes.now ≤ 65536 }
+    requires { length bytes.now ≤ MAX_PLAN_BYTES }
     ensures spelled { IfOk result (λ plan. IsPlan bytes.now plan) }
     ensures exact { Gives (λ plan. plan) result (simple_plan_in bytes.now) }
 {
@@ -154,7 +154,7 @@ pub struct CapsuleFile {
 fn capsules_in(alloc: Global, bytes: &[u8]) -> Result<Vec<Capsule>, Fault>
     ensures spelled { IfOk result (λ v. AreCapsules bytes.now (capsules_in bytes.now v.items)) }
     ensures whole { IfOk result (λ v. All (IsWholeIn bytes.now) v.items) }
-    ensures few { IfOk result (λ v. length v.items ≤ 65536) }
+    ensures few { IfOk result (λ v. length v.items ≤ MAX_CAPSULES) }
     ensures exact { Gives (λ v. capsules_in bytes.now v.items) result (capsules_in_bytes bytes.now) }
 {
     match read_capsules(alloc, bytes) {
@@ -174,7 +174,7 @@ pub fn capsules_of<F: Files>(
     ensures read { IfOk result (λ f. AreCapsules f.bytes.items (capsules_in f.bytes.items f.capsules.items)) }
     ensures exact { IfOk result (λ f. capsules_of_file f.bytes.items ≡ Ok (capsules_in f.bytes.items f.capsules.items)) }
     ensures whole { IfOk result (λ f. All (IsWholeIn f.bytes.items) f.capsules.items) }
-    ensures few { IfOk result (λ f. length f.capsules.items ≤ 65536) }
+    ensures few { IfOk result (λ f. length f.capsules.items ≤ MAX_CAPSULES) }
     ensures refused { IfErr result (λ f. FileRefused CAPSULES name.now capsules_of_file (files_view (told_by (F.tells files.old) (F.told files.old)) (F.faults files.old) (F.last files.old)) (files_view (told_by (F.tells files.new) (F.told files.new)) (F.faults files.new) (F.last files.new)) f) }
     ensures same { (told_by (F.tells files.new) (F.told files.new)) ≡ (told_by (F.tells files.old) (F.told files.old)) }
     ensures later { F.faults files.old ≤ F.faults files.new }

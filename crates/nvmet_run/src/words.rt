@@ -1,5 +1,4 @@
 ghost use Rattle.std.specs.Prelude.{◌≡◌, ◌⊎◌, ◌↔◌, ℕ, List, Some, None, MatchOption};
-ghost use Rattle.std.specs.List.{list_all};
 ghost use Rattle.plan_files.specs.Outside.{Rose};
 ghost use Rattle.nvmet_run.specs.Codes.{status_of};
 ghost use Rattle.nvmet_run.specs.Headline.{told_by, Ran};
@@ -7,12 +6,12 @@ ghost use Rattle.nvmet_run.specs.Outsides.{files_view, sink_view, outside, Said}
 ghost use Rattle.nvmet_run.specs.Refusals.{Refusal, FilesTell};
 ghost use Rattle.nvmet_run.specs.Texts.{usage_line};
 ghost use Rattle.nvmet_run.specs.declared.status.Fault.{Fault};
-ghost use Rattle.nvmet_run.specs.Commands.{plan_named, is_plan_name, is_visible};
+ghost use Rattle.nvmet_run.specs.Commands.{plan_named, is_plan_name};
 
 use crate::report::put_usage;
 use crate::run::run_plan;
 use crate::status::Status;
-use plan_files::{Files, Gate, Sink};
+use plan_files::{Files, Gate, Sink, is_name};
 use std::alloc::Global;
 use std::sync::Wait;
 use std::thread::Threads;
@@ -22,17 +21,7 @@ fn names_a_plan(word: &str) -> bool
     ensures { result ≡ is_plan_name word.now }
 {
     let bytes = word.as_bytes();
-    if bytes.is_empty() || bytes.len() > 255 {
-        return false;
-    }
-    are_visible(bytes) && bytes[0] != 45
-}
-
-// Whether each byte is one from 21h to 7Eh.
-fn are_visible(bytes: &[u8]) -> bool
-    ensures { result ≡ list_all is_visible bytes.now }
-{
-    bytes.iter().all(|b| 32 < *b && *b < 127)
+    is_name(bytes) && !bytes.starts_with(b"-")
 }
 
 // The plan's name, where the words are `run` and a name.

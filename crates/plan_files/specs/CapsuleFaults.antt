@@ -3,6 +3,7 @@ use Rattle.std.specs.Prelude.{◌≡◌, ◌≤◌, ◌<◌, ◌⊎◌, ℕ, ◌
 use Rattle.sqe_cqe.specs.Sqe.{payload_len}
 use Rattle.plan_files.specs.Capsules.{Capsule, AreCapsules, AreWithin, head_of}
 use Rattle.plan_files.specs.Rooms.{capsule_room, room_of}
+use Rattle.plan_files.specs.declared.capsules.TheConstants.{MAX_CAPSULES, MAX_DATA, MAX_OUTPUT}
 use Rattle.plan_files.specs.declared.capsules.CapsuleError.{CapsuleError}
 use Rattle.plan_files.specs.declared.capsules.CapsuleError.TheVariants as errors
 use Rattle.plan_files.specs.declared.limits.What.TheVariants.{Capsules, Data, Output}
@@ -12,28 +13,28 @@ abbrev pub IsCut : List ℕ → Type 0
 IsCut bytes =
     (0 < length bytes)
     × ((length bytes < 64)
-    ⊎ ((payload_len (head_of bytes) ≤ 131072) × (length bytes < 64 + payload_len (head_of bytes))))
+    ⊎ ((payload_len (head_of bytes) ≤ MAX_DATA) × (length bytes < 64 + payload_len (head_of bytes))))
 
 -- one more capsule begins here, and none may
 pub record PassesCapsules (more : ℕ) (bytes : List ℕ) (count : ℕ) : Type 0 where
   pub none : more ≡ 0
   pub some : 0 < length bytes
-  pub is : count ≡ 65537
+  pub is : count ≡ MAX_CAPSULES + 1
 
 -- an entry stands here whose data are too long
 pub record PassesData (more : ℕ) (bytes : List ℕ) (count : ℕ) : Type 0 where
   pub may : 0 < more
   pub entry : 64 ≤ length bytes
   pub is : count ≡ payload_len (head_of bytes)
-  pub long : 131072 < count
+  pub long : MAX_DATA < count
 
 -- a whole capsule stands here for whose responses there is no room, after capsules that need this room
 pub record PassesOutput (more room : ℕ) (bytes : List ℕ) (count : ℕ) : Type 0 where
   pub may : 0 < more
-  pub short : payload_len (head_of bytes) ≤ 131072
+  pub short : payload_len (head_of bytes) ≤ MAX_DATA
   pub whole : 64 + payload_len (head_of bytes) ≤ length bytes
   pub is : count ≡ room + capsule_room (head_of bytes)
-  pub over : 67108864 < count
+  pub over : MAX_OUTPUT < count
 
 -- Why the capsule that begins at this offset can't be read, where so many may still come and those before it need this
 -- room.
@@ -52,4 +53,4 @@ pub record FirstFault (bytes : List ℕ) (e : CapsuleError) : Type 0 where
   pub cs : List Capsule
   pub are : AreCapsules done cs
   pub within : AreWithin cs
-  pub next : NextFault (65536 - length cs) (room_of (λ c. c.entry) cs) (length done) left e
+  pub next : NextFault (MAX_CAPSULES - length cs) (room_of (λ c. c.entry) cs) (length done) left e

@@ -4,6 +4,7 @@ use Rattle.sqe_cqe.specs.Sqe.{payload_len}
 use Rattle.plan_files.specs.Binding.{◌>>=◌}
 use Rattle.plan_files.specs.Capsules.{Capsule, capsule_of, head_of}
 use Rattle.plan_files.specs.Rooms.{capsule_room}
+use Rattle.plan_files.specs.declared.capsules.TheConstants.{MAX_CAPSULES, MAX_DATA, MAX_OUTPUT}
 use Rattle.plan_files.specs.declared.capsules.CapsuleError.{CapsuleError}
 use Rattle.plan_files.specs.declared.capsules.CapsuleError.TheVariants as errors
 use Rattle.plan_files.specs.declared.limits.What.TheVariants.{Capsules, Data, Output}
@@ -23,9 +24,9 @@ Gives view (Err e) read = Fails e read
 unfoldable pub next_capsule : ℕ → ℕ → List ℕ → Result Capsule CapsuleError
 next_capsule at room bytes =
     if nat_lt (length bytes) 64 then Err (errors.Cut at) else
-    (if nat_lt 131072 (payload_len (head_of bytes)) then Err (errors.TooLong Data (payload_len (head_of bytes))) else
+    (if nat_lt MAX_DATA (payload_len (head_of bytes)) then Err (errors.TooLong Data (payload_len (head_of bytes))) else
     (if nat_lt (length bytes) (64 + payload_len (head_of bytes)) then Err (errors.Cut at) else
-    (if nat_lt 67108864 (room + capsule_room (head_of bytes)) then Err (errors.TooLong Output (room + capsule_room (head_of bytes))) else
+    (if nat_lt MAX_OUTPUT (room + capsule_room (head_of bytes)) then Err (errors.TooLong Output (room + capsule_room (head_of bytes))) else
     Ok (capsule_of bytes))))
 
 -- how many bytes a capsule takes in its file
@@ -35,11 +36,11 @@ width c = 64 + payload_len c.entry
 -- the capsules from the offset `at` on, where so many more are allowed
 unfoldable pub capsules_from : ℕ → ℕ → ℕ → List ℕ → Result (List Capsule) CapsuleError
 capsules_from left at room [] = Ok []
-capsules_from zero at room (b ∷ bytes) = Err (errors.TooLong Capsules 65537)
+capsules_from zero at room (b ∷ bytes) = Err (errors.TooLong Capsules (MAX_CAPSULES + 1))
 capsules_from (suc left) at room (b ∷ bytes) =
     next_capsule at room (b ∷ bytes) >>= λ c.
     capsules_from left (at + width c) (room + capsule_room c.entry) (drop (width c) (b ∷ bytes)) >>= λ cs. Ok (c ∷ cs)
 
 -- the capsules of a file, or its first fault
 abbrev pub capsules_of : List ℕ → Result (List Capsule) CapsuleError
-capsules_of bytes = capsules_from 65536 0 160 bytes
+capsules_of bytes = capsules_from MAX_CAPSULES 0 160 bytes

@@ -4,6 +4,7 @@ use Rattle.plan_files.specs.declared.items.Item.{Item}
 use Rattle.plan_files.specs.declared.items.Plan.{Plan}
 use Rattle.plan_files.specs.declared.limits.What.{What}
 use Rattle.plan_files.specs.declared.limits.What.TheVariants.{Disks, DiskBytes, AllDiskBytes, Queues}
+use Rattle.plan_files.specs.declared.plan.TheConstants.{MAX_DISKS, MAX_DISK_BYTES, MAX_ALL_DISK_BYTES, MAX_QUEUES}
 use Rattle.plan_files.specs.declared.plan.PlanError.{PlanError}
 use Rattle.plan_files.specs.declared.plan.PlanError.TheVariants as errors
 use Rattle.plan_files.specs.Lines.{lines_of}
@@ -23,10 +24,10 @@ pub record IsBad (p : Plan) (line : List ℕ) : Type 0 where
 -- the first limit that a plan passes, where its newest disk has so many bytes
 abbrev pub PassesFirst : Plan → ℕ → What → ℕ → Type 0
 PassesFirst p bytes what count =
-    ((what ≡ Disks) × (count ≡ length p.disks) × (64 < count))
-    ⊎ (((what ≡ DiskBytes) × (count ≡ bytes) × (16777216 < count) × (length p.disks ≤ 64))
-    ⊎ (((what ≡ AllDiskBytes) × (count ≡ total_of p.disks) × (268435456 < count) × (length p.disks ≤ 64) × (bytes ≤ 16777216))
-    ⊎ ((what ≡ Queues) × (count ≡ length p.queues) × (31 < count) × (length p.disks ≤ 64) × (bytes ≤ 16777216) × (total_of p.disks ≤ 268435456))))
+    ((what ≡ Disks) × (count ≡ length p.disks) × (MAX_DISKS < count))
+    ⊎ (((what ≡ DiskBytes) × (count ≡ bytes) × (MAX_DISK_BYTES < count) × (length p.disks ≤ MAX_DISKS))
+    ⊎ (((what ≡ AllDiskBytes) × (count ≡ total_of p.disks) × (MAX_ALL_DISK_BYTES < count) × (length p.disks ≤ MAX_DISKS) × (bytes ≤ MAX_DISK_BYTES))
+    ⊎ ((what ≡ Queues) × (count ≡ length p.queues) × (MAX_QUEUES < count) × (length p.disks ≤ MAX_DISKS) × (bytes ≤ MAX_DISK_BYTES) × (total_of p.disks ≤ MAX_ALL_DISK_BYTES))))
 
 -- a line that may stand after those of this plan, and with which the plan passes a limit
 pub record PassesLimit (p : Plan) (line : List ℕ) (what : What) (count : ℕ) : Type 0 where

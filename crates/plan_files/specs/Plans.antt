@@ -7,6 +7,7 @@ use Rattle.mem_bdev.specs.declared.disk.DiskLine.{DiskLine}
 use Rattle.plan_files.specs.declared.items.Item.{Item}
 use Rattle.plan_files.specs.declared.items.Item.TheVariants.{Simple, Disk, Config, Script, Journal, Queue}
 use Rattle.plan_files.specs.declared.items.Plan.{Plan}
+use Rattle.plan_files.specs.declared.plan.TheConstants.{MAX_DISKS, MAX_DISK_BYTES, MAX_ALL_DISK_BYTES, MAX_QUEUES}
 use Rattle.plan_files.specs.declared.plan.PlanError.{PlanError}
 use Rattle.plan_files.specs.declared.plan.PlanError.TheVariants as errors
 use Rattle.plan_files.specs.declared.limits.What.TheVariants.{Disks, DiskBytes, AllDiskBytes, Queues}
@@ -75,10 +76,10 @@ item_bytes (Queue q) = 0
 -- 256 MiB in all disks, 31 queues
 unfoldable pub within : Plan → ℕ → Result Plan PlanError
 within p bytes =
-    if nat_lt 64 (length p.disks) then Err (errors.TooLong Disks (length p.disks)) else
-    (if nat_lt 16777216 bytes then Err (errors.TooLong DiskBytes bytes) else
-    (if nat_lt 268435456 (total_of p.disks) then Err (errors.TooLong AllDiskBytes (total_of p.disks)) else
-    (if nat_lt 31 (length p.queues) then Err (errors.TooLong Queues (length p.queues)) else
+    if nat_lt MAX_DISKS (length p.disks) then Err (errors.TooLong Disks (length p.disks)) else
+    (if nat_lt MAX_DISK_BYTES bytes then Err (errors.TooLong DiskBytes bytes) else
+    (if nat_lt MAX_ALL_DISK_BYTES (total_of p.disks) then Err (errors.TooLong AllDiskBytes (total_of p.disks)) else
+    (if nat_lt MAX_QUEUES (length p.queues) then Err (errors.TooLong Queues (length p.queues)) else
     Ok p)))
 
 -- ---- a plan, line after line
@@ -92,10 +93,10 @@ is_passed_over (b ∷ line) = b == 35
 pub record IsAllowed (p : Plan) (item : Item) : Type 0 where
   pub new : is_new p item ≡ true
   pub agrees : agrees (with_item p item) ≡ true
-  pub disks : length (with_item p item).disks ≤ 64
-  pub bytes : item_bytes item ≤ 16777216
-  pub total : total_of (with_item p item).disks ≤ 268435456
-  pub queues : length (with_item p item).queues ≤ 31
+  pub disks : length (with_item p item).disks ≤ MAX_DISKS
+  pub bytes : item_bytes item ≤ MAX_DISK_BYTES
+  pub total : total_of (with_item p item).disks ≤ MAX_ALL_DISK_BYTES
+  pub queues : length (with_item p item).queues ≤ MAX_QUEUES
 
 -- these lines make the first plan the second: each is passed over, or spells an item that may be added
 abbrev pub Makes : List (List ℕ) → Plan → Plan → Type 0

@@ -1,5 +1,6 @@
 -- What one line of a plan says, and how it is spelled.
 use Rattle.std.specs.Prelude.{ℕ, ◌^◌, ◌==◌, nat_lt, nat_le, Bool, true, not, ◌&&◌, ◌||◌, if◌then◌else◌, List, [], ◌∷◌, length, codes, slice_index, Option, Some, None}
+use Rattle.std.specs.Char.{is_ascii_digit, is_ascii_graphic}
 use Rattle.std.specs.List.{list_all, join_with_byte}
 use Rattle.std.specs.Str.{bytes_eq}
 use Rattle.std.specs.Str.Parse.{digits_value}
@@ -9,6 +10,7 @@ use Rattle.mem_bdev.specs.declared.disk.DiskLine.{DiskLine}
 use Rattle.plan_files.specs.declared.items.QueueLine.{QueueLine}
 use Rattle.plan_files.specs.declared.items.Item.{Item}
 use Rattle.plan_files.specs.declared.items.Item.TheVariants.{Simple, Disk, Config, Script, Journal, Queue}
+use Rattle.plan_files.specs.declared.line_items.TheConstants.{MAX_NAME}
 use Rattle.plan_files.specs.Lines.{words_of}
 
 -- the words of a line that says an item
@@ -26,7 +28,7 @@ spelling item = join_with_byte 32 (item_words item)
 
 -- a name has 1 to 255 bytes from 21h to 7Eh
 unfoldable pub is_name : List ℕ → Bool
-is_name name = nat_le 1 (length name) && nat_le (length name) 255 && list_all (λ b. nat_le 33 b && nat_le b 126) name
+is_name name = nat_le 1 (length name) && nat_le (length name) MAX_NAME && list_all is_ascii_graphic name
 
 -- a disk has a name, blocks of 512 or 4,096 bytes, and from 1 block to one below 2 ^ 52
 unfoldable pub fits_disk : DiskLine → Bool
@@ -48,7 +50,7 @@ fits (Queue q) = fits_queue q
 
 -- digits alone, with no leading zero but in `0` itself
 unfoldable pub is_numeral : List ℕ → Bool
-is_numeral word = nat_le 1 (length word) && (length word == 1 || not (slice_index word 0 == 48)) && list_all (λ b. nat_le 48 b && nat_le b 57) word
+is_numeral word = nat_le 1 (length word) && (length word == 1 || not (slice_index word 0 == 48)) && list_all is_ascii_digit word
 
 -- a number below 2 ^ 64
 unfoldable pub number_of : List ℕ → Option ℕ

@@ -9,14 +9,16 @@ ghost use Rattle.plan_files.specs.Rooms.{capsule_room, room_of};
 ghost use Rattle.plan_files.specs.declared.capsules.CapsuleError.TheVariants.{Memory, TooLong};
 
 use crate::limits::What;
+use mem_bdev::MAX_TRANSFER;
 use sqe_cqe::{Direction, Sqe, data_len, direction, read_sqe};
 use std::alloc::{AllocFailed, Global};
+use thiserror::Error;
 
 /// How many capsules one queue file has at most.
 pub const MAX_CAPSULES: usize = 65_536;
 
-/// How many bytes of data one capsule, and one transfer, has at most (MDTS 5 over pages of 4 KiB).
-pub const MAX_DATA: u32 = 131_072;
+/// How many bytes of data one capsule has at most: as many as one transfer.
+pub const MAX_DATA: u32 = MAX_TRANSFER as u32;
 
 /// How many bytes of room the responses to one queue file take at most: 64 MiB.
 pub const MAX_OUTPUT: u64 = 67_108_864;
@@ -34,14 +36,17 @@ pub struct Capsule {
 }
 
 /// Why a capsule file was not read.
-#[derive(Clone, Copy, Debug, PartialEq, Eq)]
+#[derive(Clone, Copy, Debug, PartialEq, Eq, Error)]
 pub enum CapsuleError {
     /// An entry or its data run past the end of the file. The offset is that of the capsule's first
     /// byte.
+    #[error("the capsule at byte {offset} is cut off")]
     Cut { offset: u64 },
     /// A limit is passed; the count is the counted number where it first passes it.
+    #[error("the limit on {what} is passed: {count}")]
     TooLong { what: What, count: u64 },
     /// No memory for the capsules.
+    #[error("out of memory")]
     Memory,
 }
 
@@ -80,11 +85,11 @@ fn room_for(e: &Sqe) -> u64
 #[tactic(auto, unfolding(crate::specs::CapsuleReading::next_capsule))]
 fn capsule_at(bytes: &[u8], at: usize, room: u64) -> Result<Capsule, CapsuleError>
     requires inside { at ≤ length bytes.now }
-    requires small { room ≤ 67108864 }
+    requires small { room ≤ MAX_OUTPUT }
     ensures exact { Gives (capsule_in bytes.now) result (next_capsule at room (drop at bytes.now)) }
     ensures whole { IfOk result (IsWholeIn bytes.now) }
     ensures place { IfOk result (λ c. c.data_at ≡ at + 64) }
-    ensures roomy { IfOk result (λ c. room + capsule_room c.sqe ≤ 67108864) }
+    ensures roomy { IfOk result (λ c. room + capsule_room c.sqe ≤ MAX_OUTPUT) }
 {
     let cut = CapsuleError::Cut { offset: at as u64 };
     let left = bytes.len() - at;
@@ -128,7 +133,7 @@ fn all_capsules(alloc: Global, bytes: &[u8]) -> Result<Vec<Capsule>, CapsuleErro
     let mut room = 160;
     while at < bytes.len() {
         if capsules.len() >= MAX_CAPSULES {
-            return Err(too_long(What::Capsules, 65_537));
+            return Err(too_long(What::Capsules, MAX_CAPSULES as u64 + 1));
         }
         let capsule = capsule_at(bytes, at, room)?;
         room += room_for(&capsule.sqe);
@@ -166,7 +171,7 @@ pub fn read_capsules(alloc: Global, bytes: &[u8]) -> Result<Vec<Capsule>, Capsul
 /// How many bytes the responses to these capsules take at most: 160 and, for each capsule, 96 and
 /// its SGL length, where its data go to the host and are at most 131,072 bytes. It takes no memory.
 pub fn room(capsules: &[Capsule]) -> u64
-    requires { length capsules.now ≤ 65536 }
+    requires { length capsules.now ≤ MAX_CAPSULES }
     ensures { result ≡ room_of (λ c. c.sqe) capsules.now }
 {
     let mut total = 160;
@@ -179,7 +184,7 @@ pub fn room(capsules: &[Capsule]) -> u64
 /// How many records the responses to these capsules are at most: 3 for each capsule, and 6. It
 /// takes no memory.
 pub fn quota(capsules: &[Capsule]) -> u32
-    requires { length capsules.now ≤ 65536 }
+    requires { length capsules.now ≤ MAX_CAPSULES }
     ensures { result ≡ 3 * length capsules.now + 6 }
 {
     3 * capsules.len() as u32 + 6

@@ -30,6 +30,7 @@ pub use faults::KeptCall;
 pub use host::{HostFiles, HostSink};
 pub use items::{DiskLines, Item, Plan, QueueLine, QueueLines};
 pub use limits::What;
+pub use line_items::{MAX_NAME, is_name};
 pub use memory::{MemFiles, MemSink};
 pub use outside::{FileError, Files, Gate, OpenGate, Point, Sink, SinkFault, WriteError};
 pub use pieces::{read_content, write_pieces};

@@ -2,6 +2,8 @@
 ghost use Rattle.std.specs.Prelude.{◌≡◌};
 ghost use Rattle.plan_files.specs.Words.{word_of};
 
+use std::fmt;
+
 /// What a passed limit counts.
 #[derive(Clone, Copy, Debug, PartialEq, Eq)]
 pub enum What {
@@ -47,5 +49,11 @@ impl What {
             What::AllDiskBytes => "all-disk-bytes",
             What::Queues => "queues",
         }
+    }
+}
+
+impl fmt::Display for What {
+    fn fmt<W: fmt::Write>(&self, f: &mut fmt::Formatter<W>) -> fmt::Result {
+        f.write_str(self.word())
     }
 }

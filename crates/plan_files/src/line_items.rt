@@ -1,6 +1,6 @@
 // One line of a plan: its words, and the item that they say.
-ghost use Rattle.std.specs.Prelude.{◌≡◌, ◌≤◌, ◌<◌, ◌∷◌, ◌^◌, length, IfOk, [], MatchOption};
-ghost use Rattle.std.specs.Prelude.{nat_le, ◌&&◌};
+ghost use Rattle.std.specs.Prelude.{◌≡◌, ◌≢◌, ◌<◌, ◌∷◌, ℕ, length, slice_index, EachIndex, IfOk, [], MatchOption};
+ghost use Rattle.std.specs.Char.{is_ascii_digit, is_ascii_graphic};
 ghost use Rattle.std.specs.List.{list_all};
 ghost use Rattle.plan_files.specs.Lines.{words_of};
 ghost use Rattle.plan_files.specs.Spelling.{is_name, is_numeral, number_of, disk_of, queue_of, file_of, table_of, said_by, item_in};
@@ -10,18 +10,25 @@ use crate::items::{Item, QueueLine};
 use mem_bdev::{DiskLine, Name};
 use std::alloc::{AllocError, Global};
 
+/// How many bytes a name has at most.
+pub const MAX_NAME: usize = 255;
+
+// Where a byte first stands.
+pub(crate) fn first_at(bytes: &[u8], byte: u8) -> Option<usize>
+    ensures { MatchOption result
+        (EachIndex bytes.now (λ k. slice_index bytes.now k ≢ byte))
+        (λ i. (i < length bytes.now) × (slice_index bytes.now i ≡ byte) × ((k : ℕ) → k < i → slice_index bytes.now k ≢ byte)) }
+{
+    bytes.iter().position(|b| *b == byte)
+}
+
 // The first word, and what follows the space after it.
 fn cut_word(text: &[u8]) -> (&[u8], Option<&[u8]>)
     ensures { MatchOption result.1 (words_of text.now ≡ result.0.now ∷ []) (λ rest. words_of text.now ≡ result.0.now ∷ words_of rest.now) }
 {
-    let mut end = 0;
-    while end < text.len() && text[end] != 32 {
-        end += 1;
-    }
-    if end < text.len() {
-        (&text[..end], Some(&text[end + 1..]))
-    } else {
-        (text, None)
+    match first_at(text, b' ') {
+        Some(end) => (&text[..end], Some(&text[end + 1..])),
+        None => (text, None),
     }
 }
 
@@ -56,23 +63,23 @@ fn line_words(line: &[u8]) -> LineWords<'_>
 }
 
 fn all_visible(word: &[u8]) -> bool
-    ensures { result ≡ list_all (λ b. nat_le 33 b && nat_le b 126) word.now }
+    ensures { result ≡ list_all is_ascii_graphic word.now }
 {
-    word.iter().all(|b| 33 <= *b && *b <= 126)
+    word.iter().all(|b| b.is_ascii_graphic())
 }
 
 fn all_digits(word: &[u8]) -> bool
-    ensures { result ≡ list_all (λ b. nat_le 48 b && nat_le b 57) word.now }
+    ensures { result ≡ list_all is_ascii_digit word.now }
 {
-    word.iter().all(|b| 48 <= *b && *b <= 57)
+    word.iter().all(|b| b.is_ascii_digit())
 }
 
-// Whether a word is a name.
+/// Whether a word is a name of a file or a disk: 1 to 255 bytes from 21h to 7Eh.
 #[tactic(auto, unfolding(crate::specs::Spelling::is_name))]
-fn is_name(word: &[u8]) -> bool
+pub fn is_name(word: &[u8]) -> bool
     ensures { result ≡ is_name word.now }
 {
-    1 <= word.len() && word.len() <= 255 && all_visible(word)
+    1 <= word.len() && word.len() <= MAX_NAME && all_visible(word)
 }
 
 // Whether a word is digits alone, with no leading zero but in `0` itself.
@@ -80,7 +87,7 @@ fn is_name(word: &[u8]) -> bool
 fn is_numeral(word: &[u8]) -> bool
     ensures { result ≡ is_numeral word.now }
 {
-    1 <= word.len() && (word.len() == 1 || word[0] != 48) && all_digits(word)
+    1 <= word.len() && (word.len() == 1 || word[0] != b'0') && all_digits(word)
 }
 
 // The number that a word is.

@@ -13,9 +13,10 @@ ghost use Rattle.plan_files.specs.declared.plan.PlanError.TheVariants.{Memory, B
 
 use crate::items::{DiskLines, Item, Plan, QueueLine, QueueLines};
 use crate::limits::What;
-use crate::line_items::line_item;
+use crate::line_items::{first_at, line_item};
 use mem_bdev::Name;
 use std::alloc::{AllocError, AllocFailed, Global};
+use thiserror::Error;
 
 /// How many disks a plan has at most.
 pub const MAX_DISKS: usize = 64;
@@ -30,16 +31,19 @@ pub const MAX_ALL_DISK_BYTES: u64 = 268_435_456;
 pub const MAX_QUEUES: usize = 31;
 
 /// Why a plan was not read.
-#[derive(Clone, Copy, Debug, PartialEq, Eq)]
+#[derive(Clone, Copy, Debug, PartialEq, Eq, Error)]
 pub enum PlanError {
     /// A line is bad: of no known form, one too many of its kind, with a disk path or a file name
     /// that stands already, or forbidden by `simple`. The number counts from 1, passed over lines
     /// among them, and stands still at 4,294,967,295. What is missing at the end is missed on the
     /// line after the last.
+    #[error("line {line} is bad")]
     BadLine { line: u32 },
     /// A limit is passed; the count is the counted number where it first passes it.
+    #[error("the limit on {what} is passed: {count}")]
     TooLong { what: What, count: u64 },
     /// No memory for the plan.
+    #[error("out of memory")]
     Memory,
 }
 
@@ -77,14 +81,9 @@ fn cut_line(bytes: &[u8]) -> (&[u8], &[u8])
     ensures line { lines_of bytes.now ≡ result.0.now ∷ lines_of result.1.now }
     ensures shorter { length result.1.now < length bytes.now }
 {
-    let mut end = 0;
-    while end < bytes.len() && bytes[end] != 10 {
-        end += 1;
-    }
-    if end < bytes.len() {
-        (&bytes[..end], &bytes[end + 1..])
-    } else {
-        (bytes, &bytes[end..])
+    match first_at(bytes, b'\n') {
+        Some(end) => (&bytes[..end], &bytes[end + 1..]),
+        None => (bytes, &[]),
     }
 }
 
@@ -93,7 +92,7 @@ fn is_passed_over(line: &[u8]) -> bool
 {
     match line {
         [] => true,
-        [first, ..] => *first == 35,
+        [first, ..] => *first == b'#',
     }
 }
 
@@ -217,9 +216,9 @@ fn item_bytes(item: &Item) -> u64
 #[tactic(auto, unfolding(crate::specs::Plans::within))]
 fn within(plan: &Plan, bytes: u64, before: u64) -> Result<u64, PlanError>
     requires total { total_of plan.now.disks ≡ before + bytes }
-    requires small { before ≤ 268435456 }
+    requires small { before ≤ MAX_ALL_DISK_BYTES }
     ensures exact { Leaves plan.now result (within plan.now bytes) }
-    ensures total { IfOk result (λ total. (total ≡ total_of plan.now.disks) × (total ≤ 268435456)) }
+    ensures total { IfOk result (λ total. (total ≡ total_of plan.now.disks) × (total ≤ MAX_ALL_DISK_BYTES)) }
 {
     let disks = plan.disks.as_slice().len();
     if disks > MAX_DISKS {
@@ -272,10 +271,10 @@ fn empty_plan(alloc: Global) -> Plan
 #[tactic(auto, unfolding(crate::specs::PlanReading::item_taken))]
 fn take_item(plan: &mut Plan, before: u64, line: u32, item: Item) -> Result<u64, PlanError>
     requires total { before ≡ total_of plan.old.disks }
-    requires small { before ≤ 268435456 }
+    requires small { before ≤ MAX_ALL_DISK_BYTES }
     requires fits { fits item ≡ true }
     ensures exact { Leaves plan.new result (item_taken line plan.old item) }
-    ensures total { IfOk result (λ total. (total ≡ total_of plan.new.disks) × (total ≤ 268435456)) }
+    ensures total { IfOk result (λ total. (total ≡ total_of plan.new.disks) × (total ≤ MAX_ALL_DISK_BYTES)) }
 {
     if !is_new(plan, &item) {
         return Err(bad_line(line));
@@ -298,9 +297,9 @@ fn take_line(
     line: &[u8],
 ) -> Result<u64, PlanError>
     requires total { before ≡ total_of plan.old.disks }
-    requires small { before ≤ 268435456 }
+    requires small { before ≤ MAX_ALL_DISK_BYTES }
     ensures exact { Leaves plan.new result (line_taken number plan.old line.now) }
-    ensures total { IfOk result (λ total. (total ≡ total_of plan.new.disks) × (total ≤ 268435456)) }
+    ensures total { IfOk result (λ total. (total ≡ total_of plan.new.disks) × (total ≤ MAX_ALL_DISK_BYTES)) }
 {
     if is_passed_over(line) {
         return Ok(before);
