@@ -31,4 +31,4 @@ pub use limits::What;
 pub use memory::{MemFiles, MemSink};
 pub use outside::{FileError, Files, Gate, OpenGate, Point, Sink, SinkFault, WriteError};
 pub use plan::{MAX_ALL_DISK_BYTES, MAX_DISK_BYTES, MAX_DISKS, MAX_QUEUES, PlanError, read_plan};
-pub use records::{Record, put_record, write_record};
+pub use records::{Answer, HEAD_BYTES, Head, Kind, head_fields_fill, put_record, write_head};
