@@ -8,13 +8,14 @@ use Rattle.sqe_cqe.specs.declared.rows.Seen.{Seen}
 use Rattle.sqe_cqe.specs.declared.rows.Seen.TheVariants.{NotConfigured, Off, On}
 use Rattle.sqe_cqe.specs.declared.rows.Ana.{Ana}
 use Rattle.sqe_cqe.specs.declared.rows.Ana.TheVariants.{Optimized, NonOptimized, Inaccessible, PersistentLoss, Changing}
-use Rattle.sqe_cqe.specs.Sqe.{payload_len}
+use Rattle.mem_bdev.specs.declared.limits.TheConstants.{MAX_TRANSFER}
+use Rattle.sqe_cqe.specs.Sqe.{payload_len, host_len}
 use Rattle.sqe_cqe.specs.Answers.{View}
 use Rattle.io_commands.specs.declared.jobs.Job.{Job}
 use Rattle.io_commands.specs.declared.jobs.Job.TheVariants as job
 use Rattle.io_commands.specs.declared.jobs.Admit.{Admit}
 use Rattle.io_commands.specs.declared.jobs.Admit.TheVariants.{Refused, Run}
-use Rattle.io_commands.specs.Jobs.{disk_of, most_transfer, FitsJob}
+use Rattle.io_commands.specs.Jobs.{disk_of, taken_len, given_len, FitsDisk}
 
 -- the commands of I/O queues
 abbrev pub is_io : ℕ → Bool
@@ -49,7 +50,7 @@ unfoldable pub by_range : Sqe → NsRow → Admit
 by_range e row =
     if not (e.opcode == FLUSH) && nat_lt row.blocks (first_block e + block_count e) then Refused LBA_OUT_OF_RANGE
     else (if not (e.sgl_len == bytes_named e row) then Refused DATA_SGL_LENGTH_INVALID
-    else (if moves_data e.opcode && nat_lt most_transfer e.sgl_len then Refused INVALID_FIELD
+    else (if moves_data e.opcode && nat_lt MAX_TRANSFER e.sgl_len then Refused INVALID_FIELD
     else Run (job_of e row)))
 
 -- what bars the controller from the command, before these
@@ -78,14 +79,32 @@ io_admission v e =
     else (if not v.ready then Refused COMMAND_SEQUENCE_ERROR
     else by_namespace v e (v.ns e.nsid)))
 
--- what an admitted command does fits this namespace
+-- a job of this entry on this namespace: it is on its disk and fits it, and its data are as long as the entry says, both
+-- ways
+pub record IsJobOf (e : Sqe) (row : NsRow) (job : Job) : Type 0 where
+  pub disk : disk_of job ≡ row.disk
+  pub fits : FitsDisk job row.shift row.blocks
+  pub taken : taken_len job row.shift ≡ payload_len e
+  pub given : given_len job row.shift ≡ host_len e
+
+-- what an admitted command does is a job on this namespace
 abbrev pub FitsRow : Sqe → NsRow → Admit → Type 0
 FitsRow e row (Refused status) = Unit {0}
-FitsRow e row (Run job) = (disk_of job ≡ row.disk) × FitsJob job row.shift row.blocks (payload_len e)
+FitsRow e row (Run job) = IsJobOf e row job
 
--- what an admitted command does fits the namespace that stands there
+-- what an admitted command does is a job on the namespace that stands there
 abbrev pub FitsSeen : Sqe → Seen → Admit → Type 0
 FitsSeen e seen (Refused status) = Unit {0}
 FitsSeen e NotConfigured (Run job) = ⊥
 FitsSeen e Off (Run job) = ⊥
 FitsSeen e (On row) (Run job) = FitsRow e row (Run job)
+
+-- an enabled namespace is seen at the entry's NSID, and the job is one on it
+pub record IsOnSeen (v : View) (e : Sqe) (job : Job) : Type 0 where
+  pub row : NsRow
+  pub seen : v.ns e.nsid ≡ On row
+  pub is_job : IsJobOf e row job
+
+-- what is admitted is on the disk of a row that is seen
+abbrev pub AdmittedIsOnSeen : Type 0
+AdmittedIsOnSeen = (v : View) (e : Sqe) (job : Job) → io_admission v e ≡ Run job → IsOnSeen v e job

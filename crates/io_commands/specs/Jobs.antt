@@ -1,6 +1,7 @@
 -- What a held command does to the disk of its namespace, and what it reads there.
 use Rattle.std.specs.Prelude.{◌≡◌, ◌≤◌, ℕ, ◌+◌, ◌*◌, ◌^◌, List, []}
 use Rattle.mem_bdev.specs.Blocks.{Blocks, range_bytes, written, zeroed}
+use Rattle.mem_bdev.specs.declared.limits.TheConstants.{MAX_TRANSFER}
 use Rattle.io_commands.specs.declared.jobs.Job.{Job}
 use Rattle.io_commands.specs.declared.jobs.Job.TheVariants.{Read, Write, Zero, Flush}
 
@@ -25,24 +26,36 @@ blocks_after d (Write disk lba count) payload = written d lba payload
 blocks_after d (Zero disk lba count) payload = zeroed d lba count
 blocks_after d (Flush disk) payload = d
 
--- the largest transfer, in bytes: MDTS 5 over pages of 4 KiB
-abbrev pub most_transfer : ℕ
-most_transfer = 131072
+-- where the job's blocks end: the number of the block after its last
+abbrev pub end_of : Job → ℕ
+end_of (Read disk lba count) = lba + count
+end_of (Write disk lba count) = lba + count
+end_of (Zero disk lba count) = lba + count
+end_of (Flush disk) = 0
 
--- the job's blocks are among so many
-abbrev pub InRange : Job → ℕ → Type 0
-InRange (Read disk lba count) blocks = lba + count ≤ blocks
-InRange (Write disk lba count) blocks = lba + count ≤ blocks
-InRange (Zero disk lba count) blocks = lba + count ≤ blocks
-InRange (Flush disk) blocks = Unit {0}
+-- how many bytes of data the job takes from its capsule, with blocks of 2 ^ shift bytes
+abbrev pub taken_len : Job → ℕ → ℕ
+taken_len (Read disk lba count) shift = 0
+taken_len (Write disk lba count) shift = count * 2 ^ shift
+taken_len (Zero disk lba count) shift = 0
+taken_len (Flush disk) shift = 0
 
--- a Read's bytes fit a transfer, and a Write's data have the length of its blocks, of 2 ^ shift bytes
-abbrev pub HasLength : Job → ℕ → ℕ → Type 0
-HasLength (Read disk lba count) shift len = count * 2 ^ shift ≤ most_transfer
-HasLength (Write disk lba count) shift len = len ≡ count * 2 ^ shift
-HasLength (Zero disk lba count) shift len = Unit {0}
-HasLength (Flush disk) shift len = Unit {0}
+-- how many bytes of data it gives to the host
+abbrev pub given_len : Job → ℕ → ℕ
+given_len (Read disk lba count) shift = count * 2 ^ shift
+given_len (Write disk lba count) shift = 0
+given_len (Zero disk lba count) shift = 0
+given_len (Flush disk) shift = 0
 
--- the job may be done on so many blocks of 2 ^ shift bytes, with so many bytes of data
-abbrev pub FitsJob : Job → ℕ → ℕ → ℕ → Type 0
-FitsJob job shift blocks len = InRange job blocks × HasLength job shift len
+-- the job's blocks are among so many, of 2 ^ shift bytes, and its data fit a transfer
+pub record FitsDisk (job : Job) (shift blocks : ℕ) : Type 0 where
+  pub inside : end_of job ≤ blocks
+  pub taken : taken_len job shift ≤ MAX_TRANSFER
+  pub given : given_len job shift ≤ MAX_TRANSFER
+
+-- the data of a capsule have the length that the job asks; a job that takes none looks at none
+abbrev pub HasData : Job → ℕ → ℕ → Type 0
+HasData (Read disk lba count) shift len = Unit {0}
+HasData (Write disk lba count) shift len = len ≡ count * 2 ^ shift
+HasData (Zero disk lba count) shift len = Unit {0}
+HasData (Flush disk) shift len = Unit {0}

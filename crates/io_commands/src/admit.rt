@@ -1,8 +1,7 @@
 ghost use Rattle.std.specs.Prelude.{◌≡◌, ◌≢◌, ◌≤◌, ◌+◌, IsTrue};
 ghost use Rattle.sqe_cqe.specs.declared.codes.TheConstants.{FLUSH};
 ghost use Rattle.sqe_cqe.specs.Answers.{view_of};
-ghost use Rattle.io_commands.specs.Admission.{io_admission, by_namespace, by_state, by_bars, by_range, is_io, first_block, block_count, job_of, bytes_named, moves_data, FitsRow, FitsSeen};
-ghost use Rattle.io_commands.specs.Jobs.{most_transfer};
+ghost use Rattle.io_commands.specs.Admission.{FitsSeen, block_count, by_bars, by_namespace, by_range, by_state, first_block, io_admission, is_io, job_of, moves_data};
 
 use crate::jobs::{Admit, Job};
 use mem_bdev::MAX_TRANSFER;
@@ -37,14 +36,9 @@ fn count_of(e: &Sqe) -> u32
     e.cdw12 % 0x1_0000 + 1
 }
 
-// The job of a command whose range, length and transfer are in order.
-#[tactic(auto, unfolding(sqe_cqe::specs::Sqe::payload_len, sqe_cqe::specs::Sqe::direction_of))]
-fn job(e: &Sqe, row: &NsRow) -> Job
-    requires inside { e.now.opcode ≢ FLUSH → first_block e.now + block_count e.now ≤ row.now.blocks }
-    requires len { e.now.sgl_len ≡ bytes_named e.now row.now }
-    requires few { IsTrue (moves_data e.now.opcode) → e.now.sgl_len ≤ most_transfer }
-    ensures value { result ≡ job_of e.now row.now }
-    ensures fits { FitsRow e.now row.now (Admit.Run result) }
+// The job of a command that passed all checks.
+fn job_for(e: &Sqe, row: &NsRow) -> Job
+    ensures { result ≡ job_of e.now row.now }
 {
     let disk = row.disk;
     let lba = start_of(e);
@@ -64,8 +58,7 @@ fn job(e: &Sqe, row: &NsRow) -> Job
 #[tactic(auto, unfolding(crate::specs::Admission::by_range))]
 fn check_range(e: &Sqe, row: &NsRow) -> Admit
     requires { row.now.shift ≤ 12 }
-    ensures value { result ≡ by_range e.now row.now }
-    ensures fits { FitsRow e.now row.now result }
+    ensures { result ≡ by_range e.now row.now }
 {
     let start = start_of(e);
     let count = count_of(e);
@@ -83,15 +76,14 @@ fn check_range(e: &Sqe, row: &NsRow) -> Admit
     if moves(e.opcode) && e.sgl_len as usize > MAX_TRANSFER {
         return Admit::Refused(INVALID_FIELD);
     }
-    Admit::Run(job(e, row))
+    Admit::Run(job_for(e, row))
 }
 
 // What bars the controller, and the checks after that.
 #[tactic(auto, unfolding(crate::specs::Admission::by_bars))]
 fn check_bars(e: &Sqe, row: &NsRow, status: u16) -> Admit
     requires { row.now.shift ≤ 12 }
-    ensures value { result ≡ by_bars e.now row.now status }
-    ensures fits { FitsRow e.now row.now result }
+    ensures { result ≡ by_bars e.now row.now status }
 {
     if status != 0 {
         return Admit::Refused(status);
@@ -104,7 +96,6 @@ fn check_bars(e: &Sqe, row: &NsRow, status: u16) -> Admit
 fn check_state<L: Look>(b: &Bound, e: &Sqe, row: &NsRow, look: &mut L) -> Admit
     requires { row.now.shift ≤ 12 }
     ensures value { let v = view_of (L.told (L.behind look.old)) b.now in result ≡ by_state e.now row.now (v.ana row.now.group) (v.bars e.now.nsid e.now.opcode) }
-    ensures fits { FitsRow e.now row.now result }
     ensures behind { L.behind look.new ≡ L.behind look.old }
     ensures loads { L.loads look.new ≤ L.loads look.old + 2 }
 {
@@ -123,7 +114,6 @@ fn check_state<L: Look>(b: &Bound, e: &Sqe, row: &NsRow, look: &mut L) -> Admit
 #[tactic(auto, unfolding(crate::specs::Admission::by_namespace))]
 fn check_namespace<L: Look>(b: &Bound, e: &Sqe, look: &mut L) -> Admit
     ensures value { let v = view_of (L.told (L.behind look.old)) b.now in result ≡ by_namespace v e.now (v.ns e.now.nsid) }
-    ensures fits { FitsSeen e.now ((view_of (L.told (L.behind look.old)) b.now).ns e.now.nsid) result }
     ensures behind { L.behind look.new ≡ L.behind look.old }
     ensures loads { L.loads look.new ≤ L.loads look.old + 14 }
 {
@@ -134,14 +124,10 @@ fn check_namespace<L: Look>(b: &Bound, e: &Sqe, look: &mut L) -> Admit
     }
 }
 
-/// Whether a command of a connected I/O queue is held, and if not, the status of the first check that fails: opcode,
-/// flags, controller ready, NSID, state of the ANA group, what bars the controller, range, SGL length, largest transfer.
-///
-/// SLBA + NLB + 1 is a whole number, so no range wraps. Loads at most fifteen words, and takes no memory.
+// All checks in their order.
 #[tactic(auto, unfolding(crate::specs::Admission::io_admission))]
-pub fn admit_io<L: Look>(b: &Bound, e: &Sqe, look: &mut L) -> Admit
+fn check_all<L: Look>(b: &Bound, e: &Sqe, look: &mut L) -> Admit
     ensures value { result ≡ io_admission (view_of (L.told (L.behind look.old)) b.now) e.now }
-    ensures fits { FitsSeen e.now ((view_of (L.told (L.behind look.old)) b.now).ns e.now.nsid) result }
     ensures behind { L.behind look.new ≡ L.behind look.old }
     ensures loads { L.loads look.new ≤ L.loads look.old + 15 }
 {
@@ -155,4 +141,18 @@ pub fn admit_io<L: Look>(b: &Bound, e: &Sqe, look: &mut L) -> Admit
         return Admit::Refused(COMMAND_SEQUENCE_ERROR);
     }
     check_namespace(b, e, look)
+}
+
+/// Whether a command of a connected I/O queue is held, and if not, the status of the first check that fails: opcode,
+/// flags, controller ready, NSID, state of the ANA group, what bars the controller, range, SGL length, largest transfer.
+///
+/// SLBA + NLB + 1 is a whole number, so no range wraps. Loads at most fifteen words, and takes no memory.
+pub fn admit_io<L: Look>(b: &Bound, e: &Sqe, look: &mut L) -> Admit
+    ensures value { result ≡ io_admission (view_of (L.told (L.behind look.old)) b.now) e.now }
+    // A job is one of this entry on the disk of the namespace that is seen, and fits it.
+    ensures fits { FitsSeen e.now ((view_of (L.told (L.behind look.old)) b.now).ns e.now.nsid) result }
+    ensures behind { L.behind look.new ≡ L.behind look.old }
+    ensures loads { L.loads look.new ≤ L.loads look.old + 15 }
+{
+    check_all(b, e, look)
 }

@@ -1,6 +1,6 @@
-ghost use Rattle.std.specs.Prelude.{◌≡◌, ◌≤◌, length};
-ghost use Rattle.mem_bdev.specs.Blocks.{most_bytes};
-ghost use Rattle.io_commands.specs.Jobs.{InRange, FitsJob, blocks_after, bytes_read};
+ghost use Rattle.std.specs.Prelude.{◌≡◌, ◌≤◌, ◌+◌, length};
+ghost use Rattle.mem_bdev.specs.Texts.{HasRoom, appended};
+ghost use Rattle.io_commands.specs.Jobs.{HasData, blocks_after, bytes_read, end_of, given_len};
 
 use mem_bdev::{Buffer, Disk};
 
@@ -20,13 +20,22 @@ pub enum Admit {
     Run(Job),
 }
 
-/// Does the part of a job that changes its disk: a Write puts its data there, a Write Zeroes zeros; the other jobs leave
-/// the disk. Takes no memory.
-pub fn change(job: &Job, disk: &mut Disk, payload: &[u8])
-    requires fits { FitsJob job.now disk.old.shift (length disk.old.blocks) (length payload.now) }
+/// Does a job on its disk (NVM Command Set 1.0, 3.2): a Read's blocks are appended to `to`, which has room for them; a
+/// Write puts its data there, a Write Zeroes zeros. Always does it, and takes no memory.
+pub fn do_io(job: &Job, disk: &mut Disk, payload: &[u8], to: &mut Buffer)
+    requires inside { end_of job.now ≤ length disk.old.blocks }
+    requires data { HasData job.now disk.old.shift (length payload.now) }
+    requires room { HasRoom to.old (given_len job.now disk.old.shift) }
     ensures disk { disk.new ≡ blocks_after disk.old job.now payload.now }
+    ensures bytes { to.new ≡ appended to.old (bytes_read disk.old job.now) }
+    ensures len { length to.new.bytes ≡ length to.old.bytes + given_len job.now disk.old.shift }
 {
     match *job {
+        Job::Read {
+            disk: _,
+            lba,
+            count,
+        } => disk.append(lba, u64::from(count), to),
         Job::Write {
             disk: _,
             lba,
@@ -37,41 +46,6 @@ pub fn change(job: &Job, disk: &mut Disk, payload: &[u8])
             lba,
             count,
         } => disk.zero(lba, u64::from(count)),
-        Job::Read { .. } | Job::Flush { .. } => {}
-    }
-}
-
-/// Lends the bytes that a job reads, without a copy: those of a Read's blocks, at most 16 MiB, and none for the other
-/// jobs.
-pub fn lend<'d>(job: &Job, disk: &'d Disk) -> &'d [u8]
-    requires { InRange job.now (length disk.now.blocks) }
-    ensures value { result.now ≡ bytes_read disk.now job.now }
-    ensures short { length result.now ≤ most_bytes }
-{
-    match *job {
-        Job::Read {
-            disk: _,
-            lba,
-            count,
-        } => disk.range(lba, u64::from(count)),
-        Job::Write { .. } | Job::Zero { .. } | Job::Flush { .. } => &[],
-    }
-}
-
-/// Does a job on its disk (NVM Command Set 1.0, 3.2): `to` holds what a Read reads, and nothing after the other jobs.
-/// Always does it, and takes no memory.
-pub fn do_io(job: &Job, disk: &mut Disk, payload: &[u8], to: &mut Buffer)
-    requires fits { FitsJob job.now disk.old.shift (length disk.old.blocks) (length payload.now) }
-    ensures disk { disk.new ≡ blocks_after disk.old job.now payload.now }
-    ensures bytes { to.new ≡ bytes_read disk.old job.now }
-{
-    to.clear();
-    match *job {
-        Job::Read {
-            disk: _,
-            lba,
-            count,
-        } => to.read_from(disk, lba, count),
-        _ => change(job, disk, payload),
+        Job::Flush { disk: _ } => {}
     }
 }

@@ -8,8 +8,10 @@
 
 mod admit;
 mod jobs;
+mod law;
 #[cfg(test)]
 mod tests;
 
 pub use admit::admit_io;
-pub use jobs::{Admit, Job, change, do_io, lend};
+pub use jobs::{Admit, Job, do_io};
+pub use law::admitted_is_on_a_seen_disk;

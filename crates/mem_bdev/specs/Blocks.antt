@@ -1,6 +1,7 @@
 -- A disk as a list of blocks. Blocks are counted from 0, sizes are in bytes.
 use Rattle.std.specs.Prelude.{◌≡◌, ◌⊎◌, ◌≤◌, ℕ, zero, suc, ◌+◌, ◌*◌, ◌/◌, ◌^◌, List, [], ◌∷◌, ◌++◌, length, take, drop, replicate}
 use Rattle.std.specs.List.{flat_map}
+use Rattle.mem_bdev.specs.declared.limits.TheConstants.{MAX_DISK_BYTES}
 
 -- the blocks, each of 2 ^ shift bytes
 pub record Blocks : Type 0 where
@@ -23,15 +24,11 @@ zero_blocks shift n = replicate n (replicate (2 ^ shift) 0)
 abbrev pub blank : ℕ → ℕ → Blocks
 blank shift n = record { shift = shift; blocks = zero_blocks shift n }
 
--- the largest disk, 16 MiB
-abbrev pub most_bytes : ℕ
-most_bytes = 16777216
-
--- a shape that a disk may have: blocks of 512 or 4,096 bytes, at least one, at most 16 MiB together
+-- a shape that a disk may have: blocks of 512 or 4,096 bytes, at least one, at most `MAX_DISK_BYTES` together
 pub record IsShape (shift count : ℕ) : Type 0 where
   pub known : (shift ≡ 9) ⊎ (shift ≡ 12)
   pub some : 1 ≤ count
-  pub small : count * 2 ^ shift ≤ most_bytes
+  pub small : count * 2 ^ shift ≤ MAX_DISK_BYTES
 
 -- so many blocks from the block `lba` on lie on the disk
 abbrev pub IsInside : Blocks → ℕ → ℕ → Type 0

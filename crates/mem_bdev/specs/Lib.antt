@@ -1,2 +1,4 @@
 pub mod Blocks
 pub mod ByBlock
+pub mod Lending
+pub mod Texts

@@ -1,72 +1,102 @@
-ghost use Rattle.std.specs.Prelude.{◌≡◌, ◌≤◌, ◌+◌, ◌*◌, ◌^◌, IfOk, [], length, take};
-ghost use Rattle.mem_bdev.specs.Blocks.{IsInside, range_bytes};
+ghost use Rattle.std.specs.Prelude.{◌≡◌, ◌≤◌, ◌+◌, ◌++◌, IfOk, [], length, take, replicate};
+ghost use Rattle.mem_bdev.specs.Texts.{HasRoom, appended, overwritten, with_bytes};
+ghost use Rattle.std.specs.Vec.{vec_capacity, vec_len};
 
-use crate::disk::Disk;
+use crate::slices::copy_in;
 use std::alloc::{AllocError, Global};
 use std::marker::Model;
 
-/// How many bytes one transfer has at most: 32 pages of 4 KiB, an MDTS of 5 (NVMe Base 2.0, Identify Controller).
-pub const MAX_TRANSFER: usize = 131_072;
-
-// Reads blocks into the front of the room.
-fn read_front(disk: &Disk, lba: u64, count: u32, len: usize, room: &mut [u8])
-    requires inside { IsInside disk.now lba count }
-    requires len { len ≡ count * 2 ^ disk.now.shift }
-    requires room { len ≤ length room.old }
-    ensures { take len room.new ≡ range_bytes disk.now lba count }
-{
-    disk.read(lba, &mut room[..len]);
-}
-
-/// The data of one transfer, with room for 131,072 bytes that is found once. Contracts see the list of bytes.
+/// Bytes that grow within room that is found once: a response text, a page, the data of a transfer. Contracts see the
+/// bytes, and how many there is room for in all.
 #[derive(Drop)]
 pub struct Buffer {
-    room: Vec<u8>,
-    len: usize,
+    bytes: Vec<u8>,
+    room: usize,
 }
 
 impl Model for Buffer {
-    ghost use Rattle.std.specs.Prelude.{ℕ, List, take, length, ◌≡◌, ◌≤◌};
+    ghost use Rattle.mem_bdev.specs.Texts.{Text};
 
-    ghost Value = { List ℕ };
+    ghost Value = { Text };
 
-    ghost view = { λ b. take b.len b.room.items };
+    ghost use Rattle.std.specs.Prelude.{◌≤◌, length};
+    ghost use Rattle.std.specs.Vec.{vec_capacity};
 
-    ghost invariant = { λ b. (length b.room.items ≡ 131072) × (b.len ≤ 131072) };
+    ghost view = { λ b. record { bytes = b.bytes.items; room = b.room } };
+
+    ghost invariant = { λ b. (b.room ≤ vec_capacity b.bytes) × (length b.bytes.items ≤ b.room) };
+}
+
+// Appends zeros, for which there is the capacity.
+fn append_zeros(bytes: &mut Vec<u8>, len: usize)
+    requires { vec_len bytes.old + len ≤ vec_capacity bytes.old }
+    ensures items { bytes.new.items ≡ bytes.old.items ++ replicate len 0 }
+    ensures len { vec_len bytes.new ≡ vec_len bytes.old + len }
+    ensures capacity { vec_capacity bytes.old ≤ vec_capacity bytes.new }
+{
+    let len = bytes.len() + len;
+    let _ = bytes.resize(len, 0);
 }
 
 impl Buffer {
-    /// An empty buffer with its full room.
-    pub fn new(alloc: Global) -> Result<Self, AllocError>
-        ensures { IfOk result (λ b. b ≡ []) }
+    ghost use Rattle.std.specs.Borrow.{sem};
+    ghost use Rattle.mem_bdev.specs.Lending.{LendsBytes};
+
+    /// No bytes, with room for this many.
+    pub fn with_room(alloc: Global, room: usize) -> Result<Self, AllocError>
+        ensures { IfOk result (λ b. b ≡ record { bytes = []; room = room }) }
     {
-        let room = vec![in alloc; 0; MAX_TRANSFER]?;
-        Ok(Buffer { room, len: 0 })
+        let bytes = Vec::with_capacity(alloc, room)?;
+        Ok(Buffer { bytes, room })
     }
 
-    /// Lends the bytes, at most 131,072.
+    /// Lends the bytes.
     pub fn bytes(&self) -> &[u8]
-        ensures value { result.now ≡ self.now }
-        ensures small { length self.now ≤ 131072 }
+        ensures value { result.now ≡ self.now.bytes }
+        ensures small { length self.now.bytes ≤ self.now.room }
     {
-        &self.room[..self.len]
+        &self.bytes
     }
 
-    /// Holds what stands in `count` blocks of the disk from the block `lba` on, at most 131,072 bytes. Takes no memory.
-    pub fn read_from(&mut self, disk: &Disk, lba: u64, count: u32)
-        requires inside { IsInside disk.now lba count }
-        requires room { count * 2 ^ disk.now.shift ≤ 131072 }
-        ensures { self.new ≡ range_bytes disk.now lba count }
+    /// How many bytes it holds.
+    pub fn len(&self) -> usize
+        ensures value { result ≡ length self.now.bytes }
+        ensures small { result ≤ self.now.room }
     {
-        let len = count as usize * disk.block_size();
-        read_front(disk, lba, count, len, &mut self.room);
-        self.len = len;
+        self.bytes.len()
     }
 
     /// Holds nothing. Keeps its room.
     pub fn clear(&mut self)
-        ensures { self.new ≡ [] }
+        ensures { self.new ≡ with_bytes self.old [] }
     {
-        self.len = 0;
+        self.bytes.clear();
+    }
+
+    /// Appends bytes, for which there is room. Takes no memory.
+    pub fn put(&mut self, bytes: &[u8])
+        requires { HasRoom self.old (length bytes.now) }
+        ensures { self.new ≡ appended self.old bytes.now }
+    {
+        let _ = self.bytes.extend_from_slice(bytes);
+    }
+
+    /// Appends `len` zeros, for which there is room, and lends all bytes to be written: what stood, then the zeros. Takes
+    /// no memory.
+    pub fn fill(&mut self, len: usize) -> &mut [u8]
+        requires { HasRoom self.old len }
+        ensures* writes_back { sem 𝓛 (LendsBytes self.entry len result) }
+        ensures value { result.now ≡ self.old.bytes ++ replicate len 0 }
+    {
+        append_zeros(&mut self.bytes, len);
+        self.bytes.as_mut_slice()
+    }
+
+    /// Writes over bytes that stand, from the byte `at` on: a head that is known after what follows it. Takes no memory.
+    pub fn write_at(&mut self, at: usize, bytes: &[u8])
+        requires { at + length bytes.now ≤ length self.old.bytes }
+        ensures { self.new ≡ with_bytes self.old (overwritten self.old.bytes at bytes.now) }
+    {
+        copy_in(&mut self.bytes, at, bytes);
     }
 }

@@ -1,44 +1,13 @@
 ghost use Rattle.std.specs.Prelude.{◌≡◌, ◌≤◌, ◌<◌, ◌+◌, ◌*◌, ◌/◌, ◌^◌, ◌↔◌, IfOk, IsTrue, ◌++◌, length, take, drop, replicate, ◌⊎◌};
-ghost use Rattle.mem_bdev.specs.Blocks.{Blocks, blank, range_bytes, written, zeroed, IsShape, IsWhole, IsInside, most_bytes};
+ghost use Rattle.mem_bdev.specs.Blocks.{Blocks, blank, range_bytes, written, zeroed, IsShape, IsWhole, IsInside};
+ghost use Rattle.mem_bdev.specs.Texts.{HasRoom, appended};
 
+use crate::buffer::Buffer;
+use crate::limits::MAX_DISK_BYTES;
 use crate::name::Name;
+use crate::slices::{copy_in, copy_out, piece, zero_at};
 use std::alloc::{AllocError, Global};
 use std::marker::Model;
-
-// Copies from a place in `bytes`.
-fn copy_out(bytes: &[u8], start: usize, to: &mut [u8])
-    requires { start + length to.old ≤ length bytes.now }
-    ensures { to.new ≡ take (length to.old) (drop start bytes.now) }
-{
-    let end = start + to.len();
-    to.copy_from_slice(&bytes[start..end]);
-}
-
-// Lends so many bytes from a place on.
-fn piece(bytes: &[u8], start: usize, len: usize) -> &[u8]
-    requires { start + len ≤ length bytes.now }
-    ensures value { result.now ≡ take len (drop start bytes.now) }
-    ensures short { length result.now ≤ length bytes.now }
-{
-    &bytes[start..start + len]
-}
-
-// Copies to a place in `bytes`.
-fn copy_in(bytes: &mut [u8], start: usize, from: &[u8])
-    requires { start + length from.now ≤ length bytes.old }
-    ensures { bytes.new ≡ take start bytes.old ++ (from.now ++ drop (length from.now) (drop start bytes.old)) }
-{
-    let end = start + from.len();
-    bytes[start..end].copy_from_slice(from);
-}
-
-// Zeroes bytes from a place on.
-fn zero_at(bytes: &mut [u8], start: usize, count: usize)
-    requires { start + count ≤ length bytes.old }
-    ensures { bytes.new ≡ take start bytes.old ++ (replicate count 0 ++ drop count (drop start bytes.old)) }
-{
-    bytes[start..start + count].fill(0);
-}
 
 // The size of a block.
 fn size_of(shift: u8) -> usize
@@ -69,9 +38,9 @@ impl DiskLine {
         ensures { IsTrue result ↔ IsShape self.now.shift self.now.blocks }
     {
         if self.shift == 9 {
-            1 <= self.blocks && self.blocks <= 32_768
+            1 <= self.blocks && self.blocks <= MAX_DISK_BYTES / 512
         } else {
-            self.shift == 12 && 1 <= self.blocks && self.blocks <= 4_096
+            self.shift == 12 && 1 <= self.blocks && self.blocks <= MAX_DISK_BYTES / 4_096
         }
     }
 }
@@ -92,10 +61,11 @@ impl Model for Disk {
 
     ghost use Rattle.std.specs.Prelude.{length, ◌≡◌, ◌≤◌, ◌<◌, ◌*◌, ◌^◌};
     ghost use Rattle.mem_bdev.specs.Blocks.{cut};
+    ghost use Rattle.mem_bdev.specs.declared.limits.TheConstants.{MAX_DISK_BYTES};
 
     ghost view = { λ d. record { shift = d.shift; blocks = cut d.blocks (2 ^ d.shift) d.bytes.items } };
 
-    ghost invariant = { λ d. (d.size ≡ 2 ^ d.shift) × (length d.bytes.items ≡ d.blocks * 2 ^ d.shift) × (d.size ≤ 4096) × (d.shift ≤ 12) × (length d.bytes.items ≤ 16777216) };
+    ghost invariant = { λ d. (d.size ≡ 2 ^ d.shift) × (length d.bytes.items ≡ d.blocks * 2 ^ d.shift) × (d.size ≤ 4096) × (d.shift ≤ 12) × (length d.bytes.items ≤ MAX_DISK_BYTES) };
 }
 
 impl Disk {
@@ -133,7 +103,7 @@ impl Disk {
     /// The number of blocks, which have at most 16 MiB together.
     pub fn blocks(&self) -> u64
         ensures value { result ≡ length self.now.blocks }
-        ensures small { result * 2 ^ self.now.shift ≤ most_bytes }
+        ensures small { result * 2 ^ self.now.shift ≤ MAX_DISK_BYTES }
     {
         self.blocks
     }
@@ -147,15 +117,16 @@ impl Disk {
         copy_out(&self.bytes, start, to);
     }
 
-    /// Lends the bytes of `count` blocks from the block `lba` on, without a copy; at most 16 MiB.
-    pub fn range(&self, lba: u64, count: u64) -> &[u8]
-        requires { IsInside self.now lba count }
-        ensures value { result.now ≡ range_bytes self.now lba count }
-        ensures short { length result.now ≤ most_bytes }
+    /// Appends the bytes of `count` blocks from the block `lba` on, for which there is room: one copy. Takes no memory.
+    pub fn append(&self, lba: u64, count: u64, to: &mut Buffer)
+        requires inside { IsInside self.now lba count }
+        requires room { HasRoom to.old (count * 2 ^ self.now.shift) }
+        ensures value { to.new ≡ appended to.old (range_bytes self.now lba count) }
+        ensures len { length to.new.bytes ≡ length to.old.bytes + count * 2 ^ self.now.shift }
     {
         let start = lba as usize * self.size;
         let len = count as usize * self.size;
-        piece(&self.bytes, start, len)
+        to.put(piece(&self.bytes, start, len));
     }
 
     /// Writes whole blocks from the block `lba` on, and leaves the others. Takes no memory.

@@ -8,11 +8,14 @@
 mod buffer;
 mod disk;
 mod law;
+mod limits;
 mod name;
+mod slices;
 #[cfg(test)]
 mod tests;
 
-pub use buffer::{Buffer, MAX_TRANSFER};
+pub use buffer::Buffer;
 pub use disk::{Disk, DiskLine};
 pub use law::{write_by_blocks, zero_by_blocks};
+pub use limits::{MAX_DISK_BYTES, MAX_TRANSFER};
 pub use name::Name;

@@ -1,4 +1,10 @@
+ghost use Rattle.std.specs.Prelude.{◌≡◌, ◌*◌, ◌^◌, length};
+ghost use Rattle.mem_bdev.specs.Blocks.{IsShape};
+ghost use Rattle.mem_bdev.specs.Texts.{HasRoom, appended};
+
 use super::*;
+use std::alloc::Global;
+use std::process::Abort;
 use std::test::Fail;
 
 #[test]
@@ -16,23 +22,73 @@ fn holds_what_was_written_and_zeroed(rt: HostRuntime) -> Result<(), Fail> {
     assert_eq!(rt; to[1024], 9);
     assert_eq!(rt; &to[1025..1536], [7; 511].as_slice());
     assert_eq!(rt; &to[1536..], [0; 512].as_slice());
-    assert_eq!(rt; disk.range(1, 2), &to[512..1536]);
+    let mut text = Buffer::with_room(rt.alloc(), 1024)?;
+    disk.append(1, 2, &mut text);
+    assert_eq!(rt; text.bytes(), &to[512..1536]);
+    Ok(())
+}
+
+// The largest transfer, from a disk of exactly its size to a buffer of exactly its room.
+fn read_whole(rt: &impl Abort, alloc: Global, shift: u8, blocks: u64) -> Result<(), Fail>
+    requires shape { IsShape shift blocks }
+    requires size { blocks * 2 ^ shift ≡ MAX_TRANSFER }
+{
+    let disk = Disk::new(alloc, shift, blocks)?;
+    let mut to = Buffer::with_room(alloc, MAX_TRANSFER)?;
+    disk.append(0, blocks, &mut to);
+    let bytes = to.bytes();
+    assert_eq!(rt; bytes.len(), MAX_TRANSFER);
+    assert_eq!(rt; bytes[0], 0);
+    assert_eq!(rt; bytes[131_071], 0);
     Ok(())
 }
 
 #[test]
-fn a_buffer_reads_large_blocks(rt: HostRuntime) -> Result<(), Fail> {
+fn the_largest_transfer_fills_its_room(rt: HostRuntime) -> Result<(), Fail> {
+    read_whole(&rt, rt.alloc(), 9, 256)?;
+    read_whole(&rt, rt.alloc(), 12, 32)
+}
+
+#[test]
+fn a_buffer_takes_its_last_byte(rt: HostRuntime) -> Result<(), Fail> {
     let mut disk = Disk::new(rt.alloc(), 12, 2)?;
     disk.write(1, &[5; 4096]);
-    let mut buffer = Buffer::new(rt.alloc())?;
-    buffer.read_from(&disk, 0, 2);
-    let bytes = buffer.bytes();
-    assert_eq!(rt; bytes.len(), 8192);
-    assert_eq!(rt; bytes[4095], 0);
-    assert_eq!(rt; bytes[4096], 5);
-    assert_eq!(rt; bytes[8191], 5);
-    buffer.clear();
-    assert!(rt; buffer.bytes().is_empty());
+    let mut to = Buffer::with_room(rt.alloc(), 8196)?;
+    to.put(b"abc");
+    disk.append(0, 2, &mut to);
+    to.put(b"z");
+    assert_eq!(rt; to.len(), 8196);
+    to.write_at(1, b"yz");
+    let bytes = to.bytes();
+    assert_eq!(rt; bytes.len(), 8196);
+    assert_eq!(rt; &bytes[..3], b"ayz".as_slice());
+    assert_eq!(rt; bytes[3 + 4095], 0);
+    assert_eq!(rt; bytes[3 + 4096], 5);
+    assert_eq!(rt; bytes[3 + 8191], 5);
+    assert_eq!(rt; bytes[8195], b'z');
+    to.clear();
+    assert!(rt; to.bytes().is_empty());
+    to.put(&[1; 8196]);
+    assert_eq!(rt; to.bytes(), [1; 8196].as_slice());
+    Ok(())
+}
+
+// Writes a page of these bytes in place, after what stands.
+fn put_page(to: &mut Buffer, page: &[u8])
+    requires { HasRoom to.old (length page.now) }
+    ensures { to.new ≡ appended to.old page.now }
+{
+    let at = to.len();
+    let bytes = to.fill(page.len());
+    bytes[at..].copy_from_slice(page);
+}
+
+#[test]
+fn pages_are_written_in_place(rt: HostRuntime) -> Result<(), Fail> {
+    let mut to = Buffer::with_room(rt.alloc(), 8)?;
+    to.put(b"head");
+    put_page(&mut to, b"page");
+    assert_eq!(rt; to.bytes(), b"headpage".as_slice());
     Ok(())
 }
 

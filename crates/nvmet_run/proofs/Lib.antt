@@ -8,3 +8,4 @@ pub mod Runnable
 pub mod Refusing
 pub mod Serving
 pub mod Settling
+mod Spaces

@@ -6,12 +6,12 @@ use Rattle.plan_files.specs.declared.capsules.Capsule as code
 use Rattle.plan_files.specs.Capsules.{Capsule, capsule_in, capsules_in}
 use Rattle.seq_target.specs.declared.calls.Reply.{Reply}
 use Rattle.seq_target.specs.declared.calls.Reply.TheVariants.{Held, Answered, Waiting, NoEvent}
-use Rattle.seq_target.specs.declared.target.Target as program
+use Rattle.seq_target.specs.Kept.{Kept}
 use Rattle.seq_target.specs.Model.{Call, Submit, Execute, Control, Entry, Target}
 use Rattle.seq_target.specs.Steps.{entry_of, target_after}
 use Rattle.seq_target.specs.Legal.{IsLegal, after}
 use Rattle.seq_target.specs.Stands.{StandsFor, Simulates}
-use Rattle.nvmet_run.specs.declared.output.Kind.{Kind}
+use Rattle.plan_files.specs.declared.records.Kind.{Kind}
 use Rattle.nvmet_run.specs.declared.output.Output.{Output}
 use Rattle.nvmet_run.specs.Runs.{Placed, placed_from}
 use Rattle.nvmet_run.specs.Printing.{kind_of, number_of, payload_count}
@@ -37,7 +37,7 @@ pub record Both (P Q : List Placed → Type 0) (group : List Placed) : Type 0 wh
   pub other : Q second
 
 -- a call that replied so
-pub makes_one : (c c' : program.Target) (o o' : Output) (call : Call) (reply : Reply) (bytes : List ℕ) (kind : Kind) (number payload : ℕ)
+pub makes_one : (c c' : Kept) (o o' : Output) (call : Call) (reply : Reply) (bytes : List ℕ) (kind : Kind) (number payload : ℕ)
     → Simulates c call reply bytes c'
     → ((list : List Placed) (p : Placed) → Prints o list → IsRecordOf p o.places kind number reply payload bytes → Prints o' (list ++ p ∷ []))
     → kind_of call ≡ kind → number_of call ≡ number → payload_count call ≡ payload
@@ -57,7 +57,7 @@ makes_one c c' o o' call reply bytes kind number payload does prints k n d t h s
     }
 
 -- one after another
-pub makes_both : (P Q : List Placed → Type 0) (c c1 c2 : program.Target) (o o1 o2 : Output) → Makes P c o c1 o1 → Makes Q c1 o1 c2 o2 → Makes (Both P Q) c o c2 o2
+pub makes_both : (P Q : List Placed → Type 0) (c c1 c2 : Kept) (o o1 o2 : Output) → Makes P c o c1 o1 → Makes Q c1 o1 c2 o2 → Makes (Both P Q) c o c2 o2
 makes_both P Q c c1 c2 o o1 o2 a b t h st p =
     let x = a t h st p in
     let y = b (after t x.group) (h ++ x.group) x.stands x.prints in
@@ -77,7 +77,7 @@ makes_both P Q c c1 c2 o o1 o2 a b t h st p =
     }
 
 -- the same history, of which something weaker is said
-pub makes_by : (P Q : List Placed → Type 0) (c c1 : program.Target) (o o1 : Output) → ((g : List Placed) → P g → Q g) → Makes P c o c1 o1 → Makes Q c o c1 o1
+pub makes_by : (P Q : List Placed → Type 0) (c c1 : Kept) (o o1 : Output) → ((g : List Placed) → P g → Q g) → Makes P c o c1 o1 → Makes Q c o c1 o1
 makes_by P Q c c1 o o1 f a t h st p =
     let x = a t h st p in
     record { group = x.group; legal = x.legal; stands = x.stands; prints = x.prints; served = f (placed_from (length h) x.group) x.served }
@@ -91,7 +91,7 @@ serves-push queue number (k ∷ cs) c xs ys a b =
     let n : number + suc (length cs) ≡ number + 1 + length cs = omega arith in
     (a.0, a.1 ++ ys, ap (λ (r : List Placed). r ++ ys) a.2 ∙ append_assoc a.0 a.1 ys, a.3, serves-push queue (number + 1) cs c a.1 ys a.4 (rw n at b))
 
-makes_push : (queue : ℕ) (cs : List Capsule) (c : Capsule) (t t1 t2 : program.Target) (o o1 o2 : Output) → Makes (ServesFile queue 0 cs) t o t1 o1 → Makes (ServesCapsule queue (length cs) c) t1 o1 t2 o2
+makes_push : (queue : ℕ) (cs : List Capsule) (c : Capsule) (t t1 t2 : Kept) (o o1 o2 : Output) → Makes (ServesFile queue 0 cs) t o t1 o1 → Makes (ServesCapsule queue (length cs) c) t1 o1 t2 o2
     → Makes (ServesFile queue 0 (cs ++ c ∷ [])) t o t2 o2
 makes_push queue cs c t t1 t2 o o1 o2 a b =
     let n : 0 + length cs ≡ length cs = omega arith in
@@ -100,7 +100,7 @@ makes_push queue cs c t t1 t2 o o1 o2 a b =
     (makes_both (ServesFile queue 0 cs) (ServesCapsule queue (length cs) c) t t1 t2 o o1 o2 a b)
 
 -- nothing was done yet
-pub makes_none : (queue : ℕ) (c : program.Target) (o : Output) → Makes (ServesFile queue 0 []) c o c o
+pub makes_none : (queue : ℕ) (c : Kept) (o : Output) → Makes (ServesFile queue 0 []) c o c o
 makes_none queue c o t h st p =
     record { group = []; legal = tt; stands = st; prints = subst (λ (r : List Entry). Prints o (placed_from 0 r)) (sym (append-nil h)) p; served = refl }
 
@@ -142,7 +142,7 @@ pub no_fabrics : (opcode : ℕ) → opcode ≢ 127 → eqb opcode 127 ≡ false
 no_fabrics opcode h = grind arith
 
 -- one more capsule of a file
-pub makes_more : (queue : ℕ) (file : List ℕ) (cs : List code.Capsule) (i : ℕ) (d : code.Capsule) (t t1 t2 : program.Target) (o o1 o2 : Output)
+pub makes_more : (queue : ℕ) (file : List ℕ) (cs : List code.Capsule) (i : ℕ) (d : code.Capsule) (t t1 t2 : Kept) (o o1 o2 : Output)
     → i < length cs
     → Makes (ServesFile queue 0 (capsules_in file (take i cs))) t o t1 o1
     → Makes (ServesOne queue i (get_or cs i d).sqe (take ((get_or cs i d).data_at + (get_or cs i d).data_len - (get_or cs i d).data_at) (drop (get_or cs i d).data_at file))) t1 o1 t2 o2
@@ -158,6 +158,6 @@ makes_more queue file cs i d t t1 t2 o o1 o2 lt a b =
     rw (take_more cs i d lt, map-append) refl in
     subst (λ (r : List Capsule). Makes (ServesFile queue 0 r) t o t2 o2) (sym all) (makes_push queue (capsules_in file (take i cs)) (capsule_in file k) t t1 t2 o o1 o2 a here)
 
-pub makes_all : (queue : ℕ) (file : List ℕ) (cs : List code.Capsule) (i : ℕ) (t t1 : program.Target) (o o1 : Output) → length cs ≤ i
+pub makes_all : (queue : ℕ) (file : List ℕ) (cs : List code.Capsule) (i : ℕ) (t t1 : Kept) (o o1 : Output) → length cs ≤ i
     → Makes (ServesFile queue 0 (capsules_in file (take i cs))) t o t1 o1 → Makes (ServesFile queue 0 (capsules_in file cs)) t o t1 o1
 makes_all queue file cs i t t1 o o1 le a = subst (λ (r : List code.Capsule). Makes (ServesFile queue 0 (capsules_in file r)) t o t1 o1) (take_all i cs le) a

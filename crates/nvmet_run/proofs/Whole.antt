@@ -6,7 +6,7 @@ use Rattle.mem_bdev.specs.declared.disk.DiskLine.{DiskLine}
 use Rattle.plan_files.specs.declared.items.Plan.{Plan}
 use Rattle.plan_files.specs.declared.items.QueueLine.{QueueLine}
 use Rattle.plan_files.specs.Capsules.{Capsule, AreCapsules}
-use Rattle.seq_target.specs.declared.target.Target as program
+use Rattle.seq_target.specs.Kept.{Kept}
 use Rattle.seq_target.specs.Model.{Entry, simple_start}
 use Rattle.seq_target.specs.Stands.{StandsFor}
 use Rattle.nvmet_run.specs.declared.output.Output.{Output}
@@ -32,10 +32,10 @@ summary-is plan d file o h p =
     let parts : List Placed → List ℕ = λ list. summary_of (length h) (submits_in list) (executes_in list) (refusals_in list) (bytes_taken list) (bytes_given list) in
     ap parts (all-placed plan d file h) ∙ rw (n, p.submitted, p.executed, p.refused, p.taken, p.given) refl
 
-pub plan_served : (told : Told) (plan : Plan) (d : DiskLine) (q : QueueLine) (bytes text : List ℕ) (file : List Capsule) (c0 c1 : program.Target) (o0 o1 : Output)
+pub plan_served : (told : Told) (plan : Plan) (d : DiskLine) (q : QueueLine) (bytes text : List ℕ) (file : List Capsule) (c0 c1 : Kept) (o0 o1 : Output)
     → HoldsOf told q.capsules bytes → AreCapsules bytes file → capsules_of_file bytes ≡ Ok file → StandsFor c0 (simple_start d) → Prints o0 [] → Makes (ServesFile 1 0 file) c0 o0 c1 o1
     → text ≡ summary_of o1.places o1.submitted o1.executed o1.refused o1.taken o1.given
-    → ServedPlan told plan d q o1.records.items text
+    → ServedPlan told plan d q o1.records.bytes text
 plan_served told plan d q bytes text file c0 c1 o0 o1 held read exact st prints makes is =
     let g = makes (simple_start d) [] st prints in
     record {

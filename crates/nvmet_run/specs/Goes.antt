@@ -1,7 +1,7 @@
 -- What serving capsules makes of a target, a history and an output.
 use Rattle.std.specs.Prelude.{◌≡◌, ℕ, List, [], ◌∷◌, ◌++◌, length}
 use Rattle.sqe_cqe.specs.declared.sqe.Sqe.{Sqe}
-use Rattle.seq_target.specs.declared.target.Target as code
+use Rattle.seq_target.specs.Kept.{Kept}
 use Rattle.seq_target.specs.declared.calls.Reply.{Reply}
 use Rattle.seq_target.specs.Model.{Call, Target, Entry}
 use Rattle.seq_target.specs.Legal.{IsLegal, after}
@@ -13,7 +13,7 @@ use Rattle.nvmet_run.specs.Served.{ServesCapsule}
 
 -- a legal continuation of the history h, at whose end the model is t: the new target stands for what it leaves, the new
 -- output prints both, and P holds of it with its places
-pub record Goes (P : List Placed → Type 0) (t : Target) (h : List Entry) (target : code.Target) (output : Output) : Type 0 where
+pub record Goes (P : List Placed → Type 0) (t : Target) (h : List Entry) (target : Kept) (output : Output) : Type 0 where
   pub group : List Entry
   pub legal : IsLegal t group
   pub stands : StandsFor target (after t group)
@@ -21,7 +21,7 @@ pub record Goes (P : List Placed → Type 0) (t : Target) (h : List Entry) (targ
   pub served : P (placed_from (length h) group)
 
 -- the same from each model that the old target stands for and each history that the old output prints
-abbrev pub Makes : (List Placed → Type 0) → code.Target → Output → code.Target → Output → Type 0
+abbrev pub Makes : (List Placed → Type 0) → Kept → Output → Kept → Output → Type 0
 Makes P old printed new output = (t : Target) (h : List Entry) → StandsFor old t → Prints printed (placed_from 0 h) → Goes P t h new output
 
 -- one capsule, by its entry and its data

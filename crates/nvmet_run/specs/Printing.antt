@@ -4,24 +4,22 @@ use Rattle.std.specs.List.{flat_map, sum_by}
 use Rattle.std.specs.Fmt.{decimal}
 use Rattle.sqe_cqe.specs.declared.cqe.Cqe.{Cqe}
 use Rattle.sqe_cqe.specs.declared.codes.TheConstants.{SUCCESS}
+use Rattle.plan_files.specs.declared.records.Answer.{Answer}
+use Rattle.plan_files.specs.declared.records.Answer.TheVariants as answers
+use Rattle.plan_files.specs.declared.records.Head.{Head}
+use Rattle.plan_files.specs.declared.records.Kind.{Kind}
+use Rattle.plan_files.specs.declared.records.Kind.TheVariants as kinds
 use Rattle.plan_files.specs.Records.{record_bytes}
 use Rattle.seq_target.specs.declared.calls.Reply.{Reply}
 use Rattle.seq_target.specs.declared.calls.Reply.TheVariants.{Held, Answered, Waiting, NoEvent}
 use Rattle.seq_target.specs.Model.{Call, Submit, Execute, Control}
 use Rattle.nvmet_run.specs.Runs.{Placed, Run}
-use Rattle.nvmet_run.specs.declared.output.Kind as kinds
-use Rattle.nvmet_run.specs.declared.output.Kind.TheVariants as kind
 
 -- ---- records
-abbrev pub kind_of : Call → kinds.Kind
-kind_of (Submit queue number e) = kind.Submit
-kind_of (Execute queue number payload) = kind.Execute
-kind_of (Control queue number e payload) = kind.Control
-
-abbrev pub kind_code : kinds.Kind → ℕ
-kind_code kind.Submit = 1
-kind_code kind.Execute = 2
-kind_code kind.Control = 4
+abbrev pub kind_of : Call → Kind
+kind_of (Submit queue number e) = kinds.Submit
+kind_of (Execute queue number payload) = kinds.Execute
+kind_of (Control queue number e payload) = kinds.Control
 
 -- the capsule's number in its file, from 0
 abbrev pub number_of : Call → ℕ
@@ -29,11 +27,11 @@ number_of (Submit queue number e) = number
 number_of (Execute queue number payload) = number
 number_of (Control queue number e payload) = number
 
-abbrev pub answer_code : Reply → ℕ
-answer_code Held = 0
-answer_code (Answered cqe) = 1
-answer_code Waiting = 2
-answer_code NoEvent = 3
+abbrev pub answer_of : Reply → Answer
+answer_of Held = answers.Held
+answer_of (Answered cqe) = answers.Answered
+answer_of Waiting = answers.Waiting
+answer_of NoEvent = answers.NoEvent
 
 abbrev pub no_completion : Cqe
 no_completion = record { result = 0; sq_head = 0; sq_id = 0; cid = 0; status = 0 }
@@ -44,25 +42,38 @@ completion_of (Answered cqe) = cqe
 completion_of Waiting = no_completion
 completion_of NoEvent = no_completion
 
+-- the head of a call's record
+abbrev pub head_of : ℕ → Kind → ℕ → Reply → ℕ → Head
+head_of place kind number reply len = record {
+  place = place;
+  kind = kind;
+  answer = answer_of reply;
+  number = number;
+  len = len;
+  cqe = completion_of reply;
+}
+
 -- the record of a placed entry
 unfoldable pub entry_bytes : Placed → List ℕ
 entry_bytes p =
-    record_bytes p.place (kind_code (kind_of p.entry.call)) (answer_code p.entry.reply) (number_of p.entry.call) (completion_of p.entry.reply) p.entry.bytes
+    record_bytes (head_of p.place (kind_of p.entry.call) (number_of p.entry.call) p.entry.reply (length p.entry.bytes)) p.entry.bytes
 
 -- a response file: the record of each entry of its queue, in order
 abbrev pub responses : List Placed → List ℕ
 responses list = flat_map entry_bytes list
 
 -- ---- the numbers of the summary
-abbrev pub submit_count : kinds.Kind → ℕ
-submit_count kind.Submit = 1
-submit_count kind.Execute = 0
-submit_count kind.Control = 0
+abbrev pub submit_count : Kind → ℕ
+submit_count kinds.Submit = 1
+submit_count kinds.Execute = 0
+submit_count kinds.Poll = 0
+submit_count kinds.Control = 0
 
-abbrev pub execute_count : kinds.Kind → ℕ
-execute_count kind.Submit = 0
-execute_count kind.Execute = 1
-execute_count kind.Control = 0
+abbrev pub execute_count : Kind → ℕ
+execute_count kinds.Submit = 0
+execute_count kinds.Execute = 1
+execute_count kinds.Poll = 0
+execute_count kinds.Control = 0
 
 -- a completion with another status than success
 abbrev pub refusal_count : Reply → ℕ

@@ -1,23 +1,17 @@
-ghost use Rattle.std.specs.Prelude.{◌≡◌, ◌≤◌, ◌<◌, ◌+◌, ◌*◌, ◌^◌, ◌++◌, [], ◌∷◌, List, length, OnOk, IfOk};
-ghost use Rattle.nvmet_run.specs.Printing.{answer_code, completion_of, refusal_count};
+ghost use Rattle.std.specs.Prelude.{◌≡◌, ◌≤◌, ◌<◌, ◌+◌, ◌*◌, ◌^◌, ◌++◌, [], ◌∷◌, List, length, IfOk};
+ghost use Rattle.mem_bdev.specs.Texts.{HasRoom};
+ghost use Rattle.nvmet_run.specs.Printing.{answer_of, completion_of, execute_count, head_of, refusal_count, submit_count};
 
-use plan_files::put_record;
+use mem_bdev::Buffer;
+use plan_files::{Answer, HEAD_BYTES, Head, Kind, put_record};
 use seq_target::Reply;
 use sqe_cqe::{Cqe, SUCCESS};
 use std::alloc::{AllocError, Global};
 
-/// The kind of a record.
-#[derive(Clone, Copy, Debug, PartialEq, Eq)]
-pub enum Kind {
-    Submit,
-    Execute,
-    Control,
-}
-
 /// What a queue's calls have given so far: the records, and the numbers of the summary. Data are counted in bytes.
 #[derive(Drop)]
 pub struct Output {
-    pub records: Vec<u8>,
+    pub records: Buffer,
     pub places: u32,
     pub submitted: u32,
     pub executed: u32,
@@ -29,52 +23,37 @@ pub struct Output {
     ghost given_fits: { given ≤ places * 4294967296 },
 }
 
-impl Kind {
-    ghost use Rattle.nvmet_run.specs.Printing.{kind_code, submit_count, execute_count};
-
-    fn code(self) -> u8
-        ensures { result ≡ kind_code self }
-    {
-        match self {
-            Kind::Submit => 1,
-            Kind::Execute => 2,
-            Kind::Control => 4,
-        }
+fn submits(kind: Kind) -> u32
+    ensures value { result ≡ submit_count kind }
+    ensures small { result ≤ 1 }
+{
+    match kind {
+        Kind::Submit => 1,
+        Kind::Execute | Kind::Poll | Kind::Control => 0,
     }
+}
 
-    fn submits(self) -> u32
-        ensures value { result ≡ submit_count self }
-        ensures small { result ≤ 1 }
-    {
-        match self {
-            Kind::Submit => 1,
-            Kind::Execute | Kind::Control => 0,
-        }
-    }
-
-    fn executes(self) -> u32
-        ensures value { result ≡ execute_count self }
-        ensures small { result ≤ 1 }
-    {
-        match self {
-            Kind::Execute => 1,
-            Kind::Submit | Kind::Control => 0,
-        }
+fn executes(kind: Kind) -> u32
+    ensures value { result ≡ execute_count kind }
+    ensures small { result ≤ 1 }
+{
+    match kind {
+        Kind::Execute => 1,
+        Kind::Submit | Kind::Poll | Kind::Control => 0,
     }
 }
 
 impl Output {
     ghost use Rattle.nvmet_run.specs.Runs.{Placed};
-    ghost use Rattle.nvmet_run.specs.Prints.{Prints, IsRecordOf};
-    ghost use Rattle.std.specs.Vec.{vec_capacity};
+    ghost use Rattle.nvmet_run.specs.Prints.{Counts, Prints, IsRecordOf};
 
     /// An output of no calls, with room for this many bytes of records.
     pub fn new(alloc: Global, room: usize) -> Result<Self, AllocError>
         ensures prints { IfOk result (λ o. Prints o []) }
         ensures places { IfOk result (λ o. o.places ≡ 0) }
-        ensures room { IfOk result (λ o. room ≤ vec_capacity o.records) }
+        ensures room { IfOk result (λ o. o.records ≡ record { bytes = []; room = room }) }
     {
-        let records = Vec::with_capacity(alloc, room)?;
+        let records = Buffer::with_room(alloc, room)?;
         Ok(Output {
             records,
             places: 0,
@@ -86,46 +65,56 @@ impl Output {
         })
     }
 
-    /// Adds the record of a call at its place.
+    /// Counts a call whose record was appended: it took `payload` bytes of data and gave `given`.
     #[inline(always)]
-    pub fn add(
-        &mut self,
-        place: u32,
-        kind: Kind,
-        number: u32,
-        reply: &Reply,
-        payload: usize,
-        bytes: &[u8],
-    ) -> Result<(), AllocError>
-        requires room { self.old.places < 4294967295 }
+    pub fn count(&mut self, kind: Kind, reply: &Reply, payload: usize, given: usize)
+        requires few { self.old.places < 4294967295 }
         requires payload { payload < 2 ^ 32 }
-        requires bytes { length bytes.now < 2 ^ 32 }
-        ensures prints { OnOk result ((list : List Placed) (p : Placed) → Prints self.old list → IsRecordOf p place kind number reply.now payload bytes.now → Prints self.new (list ++ p ∷ [])) }
-        ensures places { OnOk result (self.new.places ≡ self.old.places + 1) }
+        requires given { given < 2 ^ 32 }
+        ensures { Counts self.old self.new kind reply.now payload given }
     {
-        let cqe = completion(reply);
-        put_record(
-            place,
-            kind.code(),
-            answer(reply),
-            number,
-            &cqe,
-            bytes,
-            &mut self.records,
-        )?;
         let places = self.places + 1;
-        let submitted = self.submitted + kind.submits();
-        let executed = self.executed + kind.executes();
+        let submitted = self.submitted + submits(kind);
+        let executed = self.executed + executes(kind);
         let refused = self.refused + refusal(reply);
         let taken = self.taken + payload as u64;
-        let given = self.given + bytes.len() as u64;
+        let given = self.given + given as u64;
         self.places = places;
         self.submitted = submitted;
         self.executed = executed;
         self.refused = refused;
         self.taken = taken;
         self.given = given;
-        Ok(())
+    }
+
+    /// Adds the record of a call that gives no data, at its place. There is room for it, so it takes no memory.
+    #[inline(always)]
+    pub fn add(&mut self, place: u32, kind: Kind, number: u32, reply: &Reply)
+        requires few { self.old.places < 4294967295 }
+        requires room { HasRoom self.old.records HEAD_BYTES }
+        ensures prints { (list : List Placed) (p : Placed) → Prints self.old list →
+            IsRecordOf p place kind number reply.now 0 [] → Prints self.new (list ++ p ∷ []) }
+        ensures places { self.new.places ≡ self.old.places + 1 }
+        ensures len { length self.new.records.bytes ≡ length self.old.records.bytes + HEAD_BYTES }
+        ensures same_room { self.new.records.room ≡ self.old.records.room }
+    {
+        let head = head(place, kind, number, reply, 0);
+        put_record(&head, &[], &mut self.records);
+        self.count(kind, reply, 0, 0);
+    }
+}
+
+/// The head of the record of a call, with so many bytes of data after it.
+pub fn head(place: u32, kind: Kind, number: u32, reply: &Reply, len: u32) -> Head
+    ensures { result ≡ head_of place kind number reply.now len }
+{
+    Head {
+        place,
+        kind,
+        answer: answer(reply),
+        number,
+        len,
+        cqe: completion(reply),
     }
 }
 
@@ -144,14 +133,14 @@ fn completion(reply: &Reply) -> Cqe
     }
 }
 
-fn answer(reply: &Reply) -> u8
-    ensures { result ≡ answer_code reply.now }
+fn answer(reply: &Reply) -> Answer
+    ensures { result ≡ answer_of reply.now }
 {
     match reply {
-        Reply::Held => 0,
-        Reply::Answered(_) => 1,
-        Reply::Waiting => 2,
-        Reply::NoEvent => 3,
+        Reply::Held => Answer::Held,
+        Reply::Answered(_) => Answer::Answered,
+        Reply::Waiting => Answer::Waiting,
+        Reply::NoEvent => Answer::NoEvent,
     }
 }
 

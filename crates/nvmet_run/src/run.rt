@@ -24,7 +24,7 @@ use std::thread::Threads;
 // What a run has made before it writes.
 #[derive(Drop)]
 struct Printed {
-    records: Vec<u8>,
+    records: Buffer,
     text: String,
 }
 
@@ -38,7 +38,7 @@ fn serve_plan<F: Files>(
 ) -> Result<Printed, Fault>
     requires simple { IsSimpleOf plan.now disk.now queue.now }
     requires text { IsUtf8 queue.now.capsules }
-    ensures served { IfOk result (λ m. ServedPlan (told_by (F.tells files.old) (F.told files.old)) plan.now disk.now queue.now m.records.items (string_bytes m.text)) }
+    ensures served { IfOk result (λ m. ServedPlan (told_by (F.tells files.old) (F.told files.old)) plan.now disk.now queue.now m.records.bytes (string_bytes m.text)) }
     ensures refused { IfErr result (λ f. FileRefused CAPSULES queue.now.capsules capsules_of_file (files_view (told_by (F.tells files.old) (F.told files.old)) (F.faults files.old) (F.last files.old)) (files_view (told_by (F.tells files.new) (F.told files.new)) (F.faults files.new) (F.last files.new)) f) }
     ensures same { (told_by (F.tells files.new) (F.told files.new)) ≡ (told_by (F.tells files.old) (F.told files.old)) }
     ensures later { F.faults files.old ≤ F.faults files.new }
@@ -46,16 +46,8 @@ fn serve_plan<F: Files>(
     let _plan = plan;
     let file = capsules_of(alloc, &queue.capsules, files)?;
     let mut target = Target::simple(alloc, disk)?;
-    let mut buffer = Buffer::new(alloc)?;
     let mut output = Output::new(alloc, room(&file.capsules) as usize)?;
-    serve_file(
-        &mut target,
-        1,
-        &file.capsules,
-        &file.bytes,
-        &mut buffer,
-        &mut output,
-    )?;
+    serve_file(&mut target, 1, &file.capsules, &file.bytes, &mut output);
     let text = summary_text(alloc, &output)?;
     Ok(Printed {
         records: output.records,
@@ -91,7 +83,7 @@ fn run_read<F: Files, K: Sink>(
     let _name = name;
     let (disk, queue) = parts(plan);
     let made = serve_plan(alloc, plan, disk, queue, files)?;
-    written(&queue.responses, &made.records, files)?;
+    written(&queue.responses, made.records.bytes(), files)?;
     put(made.text.as_str(), out)?;
     Ok(())
 }

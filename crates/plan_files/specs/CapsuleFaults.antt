@@ -3,7 +3,8 @@ use Rattle.std.specs.Prelude.{◌≡◌, ◌≤◌, ◌<◌, ◌⊎◌, ℕ, ◌
 use Rattle.sqe_cqe.specs.Sqe.{payload_len}
 use Rattle.plan_files.specs.Capsules.{Capsule, AreCapsules, AreWithin, head_of}
 use Rattle.plan_files.specs.Rooms.{capsule_room, room_of}
-use Rattle.plan_files.specs.declared.capsules.TheConstants.{MAX_CAPSULES, MAX_DATA, MAX_OUTPUT}
+use Rattle.mem_bdev.specs.declared.limits.TheConstants.{MAX_TRANSFER}
+use Rattle.plan_files.specs.declared.capsules.TheConstants.{MAX_CAPSULES, MAX_OUTPUT}
 use Rattle.plan_files.specs.declared.capsules.CapsuleError.{CapsuleError}
 use Rattle.plan_files.specs.declared.capsules.CapsuleError.TheVariants as errors
 use Rattle.plan_files.specs.declared.limits.What.TheVariants.{Capsules, Data, Output}
@@ -13,7 +14,7 @@ abbrev pub IsCut : List ℕ → Type 0
 IsCut bytes =
     (0 < length bytes)
     × ((length bytes < 64)
-    ⊎ ((payload_len (head_of bytes) ≤ MAX_DATA) × (length bytes < 64 + payload_len (head_of bytes))))
+    ⊎ ((payload_len (head_of bytes) ≤ MAX_TRANSFER) × (length bytes < 64 + payload_len (head_of bytes))))
 
 -- one more capsule begins here, and none may
 pub record PassesCapsules (more : ℕ) (bytes : List ℕ) (count : ℕ) : Type 0 where
@@ -26,12 +27,12 @@ pub record PassesData (more : ℕ) (bytes : List ℕ) (count : ℕ) : Type 0 whe
   pub may : 0 < more
   pub entry : 64 ≤ length bytes
   pub is : count ≡ payload_len (head_of bytes)
-  pub long : MAX_DATA < count
+  pub long : MAX_TRANSFER < count
 
 -- a whole capsule stands here for whose responses there is no room, after capsules that need this room
 pub record PassesOutput (more room : ℕ) (bytes : List ℕ) (count : ℕ) : Type 0 where
   pub may : 0 < more
-  pub short : payload_len (head_of bytes) ≤ MAX_DATA
+  pub short : payload_len (head_of bytes) ≤ MAX_TRANSFER
   pub whole : 64 + payload_len (head_of bytes) ≤ length bytes
   pub is : count ≡ room + capsule_room (head_of bytes)
   pub over : MAX_OUTPUT < count

@@ -4,7 +4,8 @@ use Rattle.sqe_cqe.specs.Sqe.{payload_len}
 use Rattle.plan_files.specs.Binding.{◌>>=◌}
 use Rattle.plan_files.specs.Capsules.{Capsule, capsule_of, head_of}
 use Rattle.plan_files.specs.Rooms.{capsule_room}
-use Rattle.plan_files.specs.declared.capsules.TheConstants.{MAX_CAPSULES, MAX_DATA, MAX_OUTPUT}
+use Rattle.mem_bdev.specs.declared.limits.TheConstants.{MAX_TRANSFER}
+use Rattle.plan_files.specs.declared.capsules.TheConstants.{MAX_CAPSULES, MAX_OUTPUT}
 use Rattle.plan_files.specs.declared.capsules.CapsuleError.{CapsuleError}
 use Rattle.plan_files.specs.declared.capsules.CapsuleError.TheVariants as errors
 use Rattle.plan_files.specs.declared.limits.What.TheVariants.{Capsules, Data, Output}
@@ -24,7 +25,7 @@ Gives view (Err e) read = Fails e read
 unfoldable pub next_capsule : ℕ → ℕ → List ℕ → Result Capsule CapsuleError
 next_capsule at room bytes =
     if nat_lt (length bytes) 64 then Err (errors.Cut at) else
-    (if nat_lt MAX_DATA (payload_len (head_of bytes)) then Err (errors.TooLong Data (payload_len (head_of bytes))) else
+    (if nat_lt MAX_TRANSFER (payload_len (head_of bytes)) then Err (errors.TooLong Data (payload_len (head_of bytes))) else
     (if nat_lt (length bytes) (64 + payload_len (head_of bytes)) then Err (errors.Cut at) else
     (if nat_lt MAX_OUTPUT (room + capsule_room (head_of bytes)) then Err (errors.TooLong Output (room + capsule_room (head_of bytes))) else
     Ok (capsule_of bytes))))

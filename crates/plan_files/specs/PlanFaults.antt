@@ -4,7 +4,8 @@ use Rattle.plan_files.specs.declared.items.Item.{Item}
 use Rattle.plan_files.specs.declared.items.Plan.{Plan}
 use Rattle.plan_files.specs.declared.limits.What.{What}
 use Rattle.plan_files.specs.declared.limits.What.TheVariants.{Disks, DiskBytes, AllDiskBytes, Queues}
-use Rattle.plan_files.specs.declared.plan.TheConstants.{MAX_DISKS, MAX_DISK_BYTES, MAX_ALL_DISK_BYTES, MAX_QUEUES}
+use Rattle.mem_bdev.specs.declared.limits.TheConstants.{MAX_DISK_BYTES}
+use Rattle.plan_files.specs.declared.plan.TheConstants.{MAX_DISKS, MAX_ALL_DISK_BYTES, MAX_QUEUES}
 use Rattle.plan_files.specs.declared.plan.PlanError.{PlanError}
 use Rattle.plan_files.specs.declared.plan.PlanError.TheVariants as errors
 use Rattle.plan_files.specs.Lines.{lines_of}

@@ -7,7 +7,8 @@ use Rattle.mem_bdev.specs.declared.disk.DiskLine.{DiskLine}
 use Rattle.plan_files.specs.declared.items.Item.{Item}
 use Rattle.plan_files.specs.declared.items.Item.TheVariants.{Simple, Disk, Config, Script, Journal, Queue}
 use Rattle.plan_files.specs.declared.items.Plan.{Plan}
-use Rattle.plan_files.specs.declared.plan.TheConstants.{MAX_DISKS, MAX_DISK_BYTES, MAX_ALL_DISK_BYTES, MAX_QUEUES}
+use Rattle.mem_bdev.specs.declared.limits.TheConstants.{MAX_DISK_BYTES}
+use Rattle.plan_files.specs.declared.plan.TheConstants.{MAX_DISKS, MAX_ALL_DISK_BYTES, MAX_QUEUES}
 use Rattle.plan_files.specs.declared.plan.PlanError.{PlanError}
 use Rattle.plan_files.specs.declared.plan.PlanError.TheVariants as errors
 use Rattle.plan_files.specs.declared.limits.What.TheVariants.{Disks, DiskBytes, AllDiskBytes, Queues}

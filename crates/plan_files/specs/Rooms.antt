@@ -1,7 +1,7 @@
 -- How many bytes of responses, and how many records, the capsules of a file can need.
 use Rattle.std.specs.Prelude.{ℕ, ◌+◌, List, nat_le, if◌then◌else◌}
 use Rattle.std.specs.List.{sum_by}
-use Rattle.plan_files.specs.declared.capsules.TheConstants.{MAX_DATA}
+use Rattle.mem_bdev.specs.declared.limits.TheConstants.{MAX_TRANSFER}
 use Rattle.sqe_cqe.specs.declared.sqe.Sqe.{Sqe}
 use Rattle.sqe_cqe.specs.declared.way.Direction.{Direction}
 use Rattle.sqe_cqe.specs.declared.way.Direction.TheVariants.{Nothing, ToController, ToHost, Both}
@@ -9,7 +9,7 @@ use Rattle.sqe_cqe.specs.Sqe.{direction_of}
 
 -- the data that a response can carry: of a command to the host, as long as one transfer can be
 abbrev pub data_room : Direction → ℕ → ℕ
-data_room ToHost len = if nat_le len MAX_DATA then len else 0
+data_room ToHost len = if nat_le len MAX_TRANSFER then len else 0
 data_room ToController len = 0
 data_room Nothing len = 0
 data_room Both len = 0

@@ -17,9 +17,6 @@ use thiserror::Error;
 /// How many capsules one queue file has at most.
 pub const MAX_CAPSULES: usize = 65_536;
 
-/// How many bytes of data one capsule has at most: as many as one transfer.
-pub const MAX_DATA: u32 = MAX_TRANSFER as u32;
-
 /// How many bytes of room the responses to one queue file take at most: 64 MiB.
 pub const MAX_OUTPUT: u64 = 67_108_864;
 
@@ -76,7 +73,7 @@ fn room_for(e: &Sqe) -> u64
     ensures small { result ≤ 131168 }
 {
     match direction(e) {
-        Direction::ToHost if e.sgl_len <= MAX_DATA => 96 + e.sgl_len as u64,
+        Direction::ToHost if e.sgl_len as usize <= MAX_TRANSFER => 96 + e.sgl_len as u64,
         _ => 96,
     }
 }
@@ -98,7 +95,7 @@ fn capsule_at(bytes: &[u8], at: usize, room: u64) -> Result<Capsule, CapsuleErro
     }
     let sqe = entry_at(bytes, at);
     let data_len = data_len(&sqe);
-    if data_len > MAX_DATA as usize {
+    if data_len > MAX_TRANSFER {
         return Err(too_long(What::Data, data_len as u64));
     }
     if left < 64 + data_len {

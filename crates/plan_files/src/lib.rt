@@ -24,7 +24,7 @@ mod records;
 mod tests;
 
 pub use capsules::{
-    Capsule, CapsuleError, MAX_CAPSULES, MAX_DATA, MAX_OUTPUT, quota, read_capsules, room,
+    Capsule, CapsuleError, MAX_CAPSULES, MAX_OUTPUT, quota, read_capsules, room,
 };
 pub use faults::KeptCall;
 pub use host::{HostFiles, HostSink};
@@ -34,5 +34,5 @@ pub use line_items::{MAX_NAME, is_name};
 pub use memory::{MemFiles, MemSink};
 pub use outside::{FileError, Files, Gate, OpenGate, Point, Sink, SinkFault, WriteError};
 pub use pieces::{read_content, write_pieces};
-pub use plan::{MAX_ALL_DISK_BYTES, MAX_DISK_BYTES, MAX_DISKS, MAX_QUEUES, PlanError, read_plan};
-pub use records::{Record, put_record, write_record};
+pub use plan::{MAX_ALL_DISK_BYTES, MAX_DISKS, MAX_QUEUES, PlanError, read_plan};
+pub use records::{Answer, HEAD_BYTES, Head, Kind, head_fields_fill, put_record, write_head};

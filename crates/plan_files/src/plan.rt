@@ -14,15 +14,12 @@ ghost use Rattle.plan_files.specs.declared.plan.PlanError.TheVariants.{Memory, B
 use crate::items::{DiskLines, Item, Plan, QueueLine, QueueLines};
 use crate::limits::What;
 use crate::line_items::{first_at, line_item};
-use mem_bdev::Name;
+use mem_bdev::{MAX_DISK_BYTES, Name};
 use std::alloc::{AllocError, AllocFailed, Global};
 use thiserror::Error;
 
 /// How many disks a plan has at most.
 pub const MAX_DISKS: usize = 64;
-
-/// How many bytes one disk has at most: 16 MiB.
-pub const MAX_DISK_BYTES: u64 = 16_777_216;
 
 /// How many bytes all disks of a plan have at most: 256 MiB.
 pub const MAX_ALL_DISK_BYTES: u64 = 268_435_456;

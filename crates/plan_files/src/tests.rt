@@ -1,6 +1,6 @@
 // Each public call on its happy path, the worked record, and each adapter failing where it is told to.
 use crate::*;
-use mem_bdev::Name;
+use mem_bdev::Buffer;
 use sqe_cqe::Cqe;
 use std::test::Fail;
 
@@ -24,21 +24,43 @@ fn writes_records(rt: HostRuntime) -> Result<(), Fail> {
         cid: 1,
         status: 0,
     };
-    let payload = Name::from_vec(Vec::new(rt.alloc()));
-    let record = Record {
+    let head = Head {
         place: 1,
-        kind: 2,
-        answer: 1,
+        kind: Kind::Execute,
+        answer: Answer::Answered,
         number: 0,
+        len: 0,
         cqe,
-        payload,
     };
-    let mut first = Vec::new(rt.alloc());
-    write_record(&record, &mut first)?;
-    assert_eq!(rt; first.as_slice(), RECORD.as_slice());
-    let mut second = Vec::new(rt.alloc());
-    put_record(3, 2, 1, 1, &cqe, b"ab", &mut second)?;
-    assert_eq!(rt; second.as_slice(), WITH_DATA.as_slice());
+    assert_eq!(rt; write_head(&head), RECORD);
+    let mut text = Buffer::with_room(rt.alloc(), 66)?;
+    put_record(&head, b"", &mut text);
+    let head = Head {
+        place: 3,
+        number: 1,
+        len: 2,
+        ..head
+    };
+    put_record(&head, b"ab", &mut text);
+    let bytes = text.bytes();
+    assert_eq!(rt; &bytes[..32], RECORD.as_slice());
+    assert_eq!(rt; &bytes[32..], WITH_DATA.as_slice());
+    for (kind, code) in [
+        (Kind::Submit, 1),
+        (Kind::Execute, 2),
+        (Kind::Poll, 3),
+        (Kind::Control, 4),
+    ] {
+        assert_eq!(rt; kind.code(), code, "{kind:?}");
+    }
+    for (answer, code) in [
+        (Answer::Held, 0),
+        (Answer::Answered, 1),
+        (Answer::Waiting, 2),
+        (Answer::NoEvent, 3),
+    ] {
+        assert_eq!(rt; answer.code(), code, "{answer:?}");
+    }
     Ok(())
 }
 

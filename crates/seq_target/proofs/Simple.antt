@@ -12,7 +12,7 @@ use Rattle.sqe_cqe.specs.declared.rows.Seen.TheVariants.{NotConfigured}
 use Rattle.sqe_cqe.specs.Ready.{ready_in, simple_rows}
 use Rattle.sqe_cqe.specs.Answers.{view_of, same_view}
 use Rattle.sqe_cqe.specs.One.{one_answers}
-use Rattle.seq_target.specs.declared.target.Target as code
+use Rattle.seq_target.specs.Kept.{Kept}
 use Rattle.seq_target.specs.Configuration.{namespace_at, group_at, state_of, simple_settings, simple_namespace, simple_nqn}
 use Rattle.seq_target.specs.Model.{Bound, Target, bound_at, qid_of}
 use Rattle.seq_target.specs.Views.{of_namespace, view_at}
@@ -29,7 +29,7 @@ simple_groups path group =
 same_bytes : (xs : List ℕ) → bytes_eq xs xs ≡ true
 same_bytes xs = (bytes_eq-Decides xs xs).1 refl
 
-pub simple_qid : (c : code.Target) (t : Target) → StandsFor c t → qid_of (bound_at t 1) ≡ 1
+pub simple_qid : (c : Kept) (t : Target) → StandsFor c t → qid_of (bound_at t 1) ≡ 1
 simple_qid c t st = rw st.bindings refl
 
 simple_ready : ready_in simple_rows 1 ≡ true
@@ -53,7 +53,7 @@ abbrev pub named : Bound
 named = record { controller = 1; qid = 1; subsystem = simple_nqn }
 
 -- what the queue sees by names is what it sees by positions
-pub simple_view : (c : code.Target) (t : Target) → StandsFor c t → view_at t 1 named ≡ view_of (one_answers (simple_row c.disk)) simple_bound
+pub simple_view : (c : Kept) (t : Target) → StandsFor c t → view_at t 1 named ≡ view_of (one_answers (simple_row c.disk)) simple_bound
 simple_view c t st = same_view (view_at t 1 named) (view_of (one_answers (simple_row c.disk)) simple_bound) (record {
   ready = rw st.settings simple_ready;
   ns = λ n. rw (st.settings, st.disks, simple_namespaces st.path n, unsigned_tied n 1) (on_its_disk st.path c.disk (eqb n 1));

@@ -5,3 +5,4 @@ pub mod Admission
 pub mod Steps
 pub mod Legal
 pub mod Stands
+pub mod Kept

@@ -14,4 +14,4 @@ mod tests;
 
 pub use calls::{Call, Reply};
 pub use law::lawful_calls_are_legal;
-pub use target::{Executed, Target};
+pub use target::{Command, Target};

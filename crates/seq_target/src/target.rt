@@ -1,30 +1,27 @@
-ghost use Rattle.std.specs.Prelude.{◌≡◌, ◌≢◌, ◌≤◌, [], IfOk, length};
-ghost use Rattle.mem_bdev.specs.Blocks.{IsShape, most_bytes};
-ghost use Rattle.sqe_cqe.specs.Sqe.{payload_len};
-ghost use Rattle.seq_target.specs.Model.{Submit, Execute, Control, simple_start};
-ghost use Rattle.seq_target.specs.Stands.{StandsFor, Simulates, IsIdle, IsHolding, IsLawfulAs, holds, FitsAdmit, simple_row, simple_admission, bytes_lent, CanLend};
+ghost use Rattle.std.specs.Prelude.{◌≡◌, ◌≢◌, ◌≤◌, ◌+◌, [], IfOk, IsTrue, length};
+ghost use Rattle.mem_bdev.specs.Blocks.{IsShape};
+ghost use Rattle.mem_bdev.specs.Texts.{HasRoom, appended};
 ghost use Rattle.sqe_cqe.specs.Answers.{HasShape};
+ghost use Rattle.sqe_cqe.specs.Sqe.{host_len, payload_len};
+ghost use Rattle.seq_target.specs.Kept.{HasHeldData, held_bytes, held_len, holds};
+ghost use Rattle.seq_target.specs.Model.{Submit, Execute, Control, simple_start};
+ghost use Rattle.seq_target.specs.Stands.{StandsFor, Simulates, IsIdle, IsHolding, IsLawfulAs, FitsAdmit, simple_row, simple_admission};
 
 use crate::calls::{Call, Reply};
-use io_commands::{Admit, Job, admit_io, change, do_io, lend};
+use io_commands::{Admit, Job, admit_io, do_io};
 use mem_bdev::{Buffer, Disk, DiskLine};
 use sqe_cqe::{Ana, Bound, Cqe, INVALID_OPCODE, NsRow, OneLook, OneRow, SUCCESS, Seen, Sqe};
 use std::alloc::{AllocError, Global};
+use std::marker::Model;
 
-/// A command between its submit and its execute.
+/// A command between its submit and its execute: its queue, its capsule's number in that queue's file, from 0, its command
+/// identifier, and its job.
 #[derive(Clone, Copy, Debug, PartialEq, Eq)]
 pub struct Command {
-    queue: u32,
-    number: u32,
-    cid: u16,
-    job: Job,
-}
-
-/// A command that was executed: its completion, and the job that was done.
-#[derive(Clone, Copy, Debug, PartialEq, Eq)]
-pub struct Executed {
-    pub reply: Reply,
-    job: Job,
+    pub queue: u32,
+    pub number: u32,
+    pub cid: u16,
+    pub job: Job,
 }
 
 // The one queue of a simple plan, by numbers and positions.
@@ -36,15 +33,25 @@ const QUEUE: Bound = Bound {
 };
 
 /// The target of a simple plan, for one caller: one disk, on which namespace 1 is enabled, and one connected I/O queue
-/// with number 1.
+/// with number 1. Contracts see the disk's blocks and the held command, whose job always fits the disk.
 #[derive(Drop)]
 pub struct Target {
     disk: Disk,
     held: Option<Command>,
 }
 
-// A completion on the one queue, whose QID is 1.
-fn completed(cid: u16, status: u16) -> Reply
+impl Model for Target {
+    ghost use Rattle.seq_target.specs.Kept.{Kept, HoldsFitting};
+
+    ghost Value = { Kept };
+
+    ghost view = { λ t. record { disk = t.disk; held = t.held } };
+
+    ghost invariant = { λ t. HoldsFitting t.held t.disk };
+}
+
+// Completes a command on the one queue, whose QID is 1.
+fn complete(cid: u16, status: u16) -> Reply
     ensures { result ≡ Reply.Answered (record { result = 0; sq_head = 0; sq_id = 1; cid = cid; status = status }) }
 {
     Reply::Answered(Cqe {
@@ -89,19 +96,18 @@ impl Target {
 
     /// Submits a command of a queue: it is answered with the status of the first check that fails, or held.
     ///
-    /// `number` is the capsule's number in its file, from 0. The queue's last command was executed. `to` gets no bytes.
-    /// Takes no memory.
-    pub fn submit(&mut self, queue: u32, number: u32, e: &Sqe, to: &mut Buffer) -> Reply
+    /// `number` is the capsule's number in its file, from 0. The queue's last command was executed. A command that is held
+    /// asks for as many bytes of data, both ways, as its entry names. Takes no memory.
+    pub fn submit(&mut self, queue: u32, number: u32, e: &Sqe) -> Reply
         requires queue { queue ≡ 1 }
         requires idle { IsIdle self.old }
-        ensures does { Simulates self.old (Submit queue number e.now) result to.new self.new }
-        ensures held { result ≡ Reply.Held → IsHolding self.new queue number (payload_len e.now) }
+        ensures does { Simulates self.old (Submit queue number e.now) result [] self.new }
+        ensures held { result ≡ Reply.Held →
+            IsHolding self.new queue number (payload_len e.now) (host_len e.now) }
         ensures answered { result ≢ Reply.Held → IsIdle self.new }
-        ensures bytes { to.new ≡ [] }
     {
-        to.clear();
-        match admitted(&self.disk, e) {
-            Admit::Refused(status) => completed(e.cid, status),
+        match admit(&self.disk, e) {
+            Admit::Refused(status) => complete(e.cid, status),
             Admit::Run(job) => {
                 self.held = Some(Command {
                     queue,
@@ -114,50 +120,25 @@ impl Target {
         }
     }
 
-    /// Executes the command that is held, with its capsule's data. A Read puts its bytes into `to`. Takes no memory.
+    /// Executes the command that is held, with its capsule's data. A Read's bytes are appended to `to`, which has room for
+    /// them. Takes no memory.
     pub fn execute(&mut self, queue: u32, number: u32, payload: &[u8], to: &mut Buffer) -> Reply
         requires queue { queue ≡ 1 }
-        requires held { IsHolding self.old queue number (length payload.now) }
-        ensures does { Simulates self.old (Execute queue number payload.now) result to.new self.new }
+        requires held { IsTrue (holds self.old.held queue number) }
+        requires data { HasHeldData self.old (length payload.now) }
+        requires room { HasRoom to.old (held_len self.old) }
+        ensures does { Simulates self.old (Execute queue number payload.now) result (held_bytes self.old) self.new }
+        ensures appends { to.new ≡ appended to.old (held_bytes self.old) }
+        ensures len { length to.new.bytes ≡ length to.old.bytes + held_len self.old }
         ensures idle { IsIdle self.new }
     {
         match self.held.take() {
             None => unreachable!(),
             Some(command) => {
                 do_io(&command.job, &mut self.disk, payload, to);
-                completed(command.cid, SUCCESS)
+                complete(command.cid, SUCCESS)
             }
         }
-    }
-
-    /// Executes the command that is held, as `execute` does, and leaves what a Read reads on the disk: `lent` lends it
-    /// until the next call. Takes no memory.
-    pub fn execute_in_place(&mut self, queue: u32, number: u32, payload: &[u8]) -> Executed
-        requires queue { queue ≡ 1 }
-        requires held { IsHolding self.old queue number (length payload.now) }
-        ensures does { Simulates self.old (Execute queue number payload.now) result.reply (bytes_lent result self.new) self.new }
-        ensures lends { CanLend result self.new }
-        ensures idle { IsIdle self.new }
-    {
-        match self.held.take() {
-            None => unreachable!(),
-            Some(command) => {
-                change(&command.job, &mut self.disk, payload);
-                Executed {
-                    reply: completed(command.cid, SUCCESS),
-                    job: command.job,
-                }
-            }
-        }
-    }
-
-    /// Lends what an executed command hands to the host, without a copy: a Read's blocks, at most 16 MiB, else nothing.
-    pub fn lent(&self, executed: &Executed) -> &[u8]
-        requires { CanLend executed.now self.now }
-        ensures value { result.now ≡ bytes_lent executed.now self.now }
-        ensures short { length result.now ≤ most_bytes }
-    {
-        lend(&executed.job, &self.disk)
     }
 
     /// A fabrics command on the connected I/O queue, which is refused. Takes no memory.
@@ -167,7 +148,7 @@ impl Target {
         ensures idle { IsIdle self.old → IsIdle self.new }
     {
         let _input = (queue, number, payload.len());
-        completed(e.cid, INVALID_OPCODE)
+        complete(e.cid, INVALID_OPCODE)
     }
 }
 
@@ -195,8 +176,8 @@ fn row_of(disk: &Disk) -> OneRow
     }
 }
 
-// What a command on the one queue gets, by a look at the configuration of a simple plan.
-fn admitted(disk: &Disk, e: &Sqe) -> Admit
+// Admits or refuses a command on the one queue, by a look at the configuration of a simple plan.
+fn admit(disk: &Disk, e: &Sqe) -> Admit
     ensures value { result ≡ simple_admission e.now disk.now }
     ensures fits { FitsAdmit e.now disk.now result }
 {

@@ -36,12 +36,10 @@ fn a_fabrics_command_is_refused(rt: HostRuntime) -> Result<(), Fail> {
     };
     assert!(rt; line.is_shape());
     let mut target = Target::simple(rt.alloc(), &line)?;
-    let mut to = Buffer::new(rt.alloc())?;
     let reply = target.control(1, 0, &entry(0x7f, 9), &[]);
     is_status(&rt, &reply, 9, 0x8002);
-    let reply = target.submit(1, 1, &entry(0x03, 4), &mut to);
+    let reply = target.submit(1, 1, &entry(0x03, 4));
     is_status(&rt, &reply, 4, 0x8002);
-    assert!(rt; to.bytes().is_empty());
     Ok(())
 }
 
@@ -55,7 +53,8 @@ fn a_block_is_written_and_read(rt: HostRuntime) -> Result<(), Fail> {
     };
     assert!(rt; line.is_shape());
     let mut target = Target::simple(rt.alloc(), &line)?;
-    let mut to = Buffer::new(rt.alloc())?;
+    let mut to = Buffer::with_room(rt.alloc(), 515)?;
+    to.put(b"abc");
     let write = entry(0x01, 3);
     let payload = [7; 512];
     assert_eq!(rt; data_len(&write), 512);
@@ -64,20 +63,18 @@ fn a_block_is_written_and_read(rt: HostRuntime) -> Result<(), Fail> {
         number: 0,
     };
     assert!(rt; !target.is_lawful(&execute));
-    assert_eq!(rt; target.submit(1, 0, &write, &mut to), Reply::Held);
+    assert_eq!(rt; target.submit(1, 0, &write), Reply::Held);
     assert!(rt; target.is_lawful(&execute));
-    let done = target.execute_in_place(1, 0, &payload);
-    is_status(&rt, &done.reply, 3, 0);
-    assert!(rt; target.lent(&done).is_empty());
+    let reply = target.execute(1, 0, &payload, &mut to);
+    is_status(&rt, &reply, 3, 0);
+    assert_eq!(rt; to.bytes(), b"abc".as_slice());
     let read = entry(0x02, 4);
-    assert_eq!(rt; data_len(&read), 0);
-    assert_eq!(rt; target.submit(1, 1, &read, &mut to), Reply::Held);
-    let done = target.execute_in_place(1, 1, &[]);
-    is_status(&rt, &done.reply, 4, 0);
-    assert_eq!(rt; target.lent(&done), payload.as_slice());
-    assert_eq!(rt; target.submit(1, 2, &read, &mut to), Reply::Held);
-    let reply = target.execute(1, 2, &[], &mut to);
+    assert_eq!(rt; target.submit(1, 1, &read), Reply::Held);
+    let reply = target.execute(1, 1, &[], &mut to);
     is_status(&rt, &reply, 4, 0);
-    assert_eq!(rt; to.bytes(), payload.as_slice());
+    let bytes = to.bytes();
+    assert_eq!(rt; bytes.len(), 515);
+    assert_eq!(rt; &bytes[..3], b"abc".as_slice());
+    assert_eq!(rt; &bytes[3..], payload.as_slice());
     Ok(())
 }

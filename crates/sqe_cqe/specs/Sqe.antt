@@ -91,3 +91,13 @@ payload_by Both len = 0
 -- how many bytes of data follow an entry in a capsule
 unfoldable pub payload_len : Sqe → ℕ
 payload_len e = payload_by (direction_of e) e.sgl_len
+
+abbrev pub host_by : Direction → ℕ → ℕ
+host_by ToHost len = len
+host_by ToController len = 0
+host_by Nothing len = 0
+host_by Both len = 0
+
+-- how many bytes of data for the host an entry names
+unfoldable pub host_len : Sqe → ℕ
+host_len e = host_by (direction_of e) e.sgl_len

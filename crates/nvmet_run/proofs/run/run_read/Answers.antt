@@ -13,7 +13,7 @@ returns-in_err-put-clause-refused g c =
     let after = told_by (files.tells c.written.new.files) (files.told c.written.new.files) in
     let kept = kept_but before mid after c.parts.result.1.now c.serve_plan.ensures.same c.written.ensures.others in
     let failed = rw c.as_str.ensures.value at c.in_err-put.ensures.refused in
-    let holds = written_since before mid after _ _ c.serve_plan.ensures.same (rw c.deref.ensures.value at c.in_ok-written.ensures.holds) in
+    let holds = written_since before mid after _ _ c.serve_plan.ensures.same (rw c.bytes.ensures.value at c.in_ok-written.ensures.holds) in
     rw (p.1, p.2) (unsaid_queue _ _ _ _ _ _ _ c.parts.ensures.simple failed.0 (unsaid _ _ _ _ _ _ _ _ c.requires.read c.parts.ensures.simple c.in_ok-made.ensures.served holds kept failed.1))
 
 pub returns-clause-ran : goal.returns-clause-ran
@@ -23,5 +23,5 @@ returns-clause-ran g c =
     let mid = told_by (files.tells c.serve_plan.new.files) (files.told c.serve_plan.new.files) in
     let after = told_by (files.tells c.written.new.files) (files.told c.written.new.files) in
     let kept = kept_but before mid after c.parts.result.1.now c.serve_plan.ensures.same c.written.ensures.others in
-    let holds = written_since before mid after _ _ c.serve_plan.ensures.same (rw c.deref.ensures.value at c.in_ok-written.ensures.holds) in
+    let holds = written_since before mid after _ _ c.serve_plan.ensures.same (rw c.bytes.ensures.value at c.in_ok-written.ensures.holds) in
     ran _ _ _ _ _ _ _ _ _ _ c.requires.read c.parts.ensures.simple c.in_ok-made.ensures.served holds kept (rw c.as_str.ensures.value at c.in_ok-put.ensures.took)

@@ -3,4 +3,5 @@ use Rattle.nvmet_run.proofs.Making.{makes_one}
 use Rattle.nvmet_run.proofs.serve.submit_one.Goals as goal
 
 pub returns-clause-makes : goal.returns-clause-makes
-returns-clause-makes c = makes_one _ _ _ _ _ _ _ _ _ _ c.submit-reply.ensures.does (rw c.bytes.ensures.value at c.in_ok-add.ensures.prints) refl refl refl
+returns-clause-makes c =
+    makes_one _ _ _ _ _ _ _ _ _ _ c.submit-reply.ensures.does c.add.ensures.prints refl refl refl
