@@ -550,21 +550,30 @@ def read_ana_page(blob):
 
 # Files
 
+READ = set()  # device and inode of each file that was read
+
+
 def read_file(name):
     """The bytes of a file. Raises Bad with the system's reason."""
     try:
         with open(name, "rb") as file:
+            about = os.fstat(file.fileno())
+            READ.add((about.st_dev, about.st_ino))
             return file.read()
     except OSError as error:
         raise Bad("cannot read: %s" % (error.strerror or error))
 
 
 def write_beside(name, blob):
-    """Writes a file whole or not at all: to a new file beside it, which then takes its name."""
+    """Writes a file whole or not at all: to a new file beside it, which then takes its name. A file that was read by
+    the same command is left alone."""
     name = os.path.realpath(name)
     beside = "%s.%d.new" % (name, os.getpid())
     try:
-        if os.path.exists(name) and not os.path.isfile(name):
+        about = os.stat(name) if os.path.exists(name) else None
+        if about and (about.st_dev, about.st_ino) in READ:
+            raise Bad("%s was read, and isn't written over" % name)
+        if about and not os.path.isfile(name):
             with open(name, "wb") as device:
                 device.write(blob)
             return
@@ -574,4 +583,4 @@ def write_beside(name, blob):
     except OSError as error:
         if os.path.exists(beside):
             os.remove(beside)
-        raise Bad("cannot write: %s" % (error.strerror or error))
+        raise Bad("%s: cannot write: %s" % (name, error.strerror or error))

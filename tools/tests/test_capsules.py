@@ -260,10 +260,23 @@ class TheCommand(unittest.TestCase):
             self.assertEqual(run_tool(self.folder.name, "capsules", *words)[0], 2, words)
         self.assertEqual(run_tool(self.folder.name, "capsules", "--help")[0], 0)
 
-    def test_the_text_is_not_overwritten(self):
+    def test_what_was_read_is_not_overwritten(self):
+        self.put("t", b"write data=d\n")
+        self.put("d", b"x" * 512)
+        os.link(os.path.join(self.folder.name, "d"), os.path.join(self.folder.name, "also-d"))
+        for name in ("./t", "d", "also-d"):
+            status, _, error = run_tool(self.folder.name, "capsules", "write", "t", name)
+            self.assertEqual(status, 1)
+            self.assertIn("was read, and isn't written over", error)
+        self.assertEqual((self.get("t"), self.get("d")), (b"write data=d\n", b"x" * 512))
+        self.assertEqual(sorted(os.listdir(self.folder.name)), ["also-d", "d", "t"])
+
+    def test_a_failed_write_leaves_what_was_there(self):
         self.put("t", b"flush\n")
-        self.assertEqual(run_tool(self.folder.name, "capsules", "write", "t", "./t")[0], 1)
-        self.assertEqual(self.get("t"), b"flush\n")
+        os.mkdir(os.path.join(self.folder.name, "q"))
+        self.assertEqual(run_tool(self.folder.name, "capsules", "write", "t", "q")[0], 1)
+        self.assertEqual(run_tool(self.folder.name, "capsules", "write", "t", "/dev/full")[0], 1)
+        self.assertEqual(sorted(os.listdir(self.folder.name)), ["q", "t"])
 
 
 if __name__ == "__main__":

@@ -113,6 +113,12 @@ class Pictures(unittest.TestCase):
         status, out, _ = run_tool(".", "picture", "plan")
         with open("p.svg") as file:
             self.assertEqual((status, out), (0, file.read()))
+        with open("plan", "rb") as file:
+            plan = file.read()
+        for name in ("plan", "r1", "j", "s"):
+            self.assertEqual(run_tool(".", "picture", "plan", "-o", name)[0], 1, name)
+        with open("plan", "rb") as file:
+            self.assertEqual(file.read(), plan)
         os.remove("r1")
         self.assertEqual(run_tool(".", "picture", "plan")[0::2],
                          (1, "picture: r1: cannot read: No such file or directory\n"))
