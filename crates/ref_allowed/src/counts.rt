@@ -4,9 +4,6 @@ ghost use Rattle.ref_state.specs.State.{word_of};
 
 use ref_state::state::Count;
 
-/// 2^63, which stands in the shared count of a live reference.
-pub const BIAS: u64 = 0x8000_0000_0000_0000;
-
 /// A counter that was never raised or lowered.
 pub const ZERO: Count = Count { ups: 0, downs: 0 };
 

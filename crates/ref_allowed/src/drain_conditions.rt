@@ -5,11 +5,12 @@ ghost use Rattle.ref_state.specs.State.{view, Shows, AllPassed, drain, total, wo
 ghost use Rattle.ref_state.specs.State.{drain as drain_at};
 ghost use Rattle.ref_state.specs.Steps.{MayStep, count_or};
 
-use crate::counts::{BIAS, ZERO, count_word};
+use crate::counts::{ZERO, count_word};
 use crate::section_conditions::shows;
 use crate::side_conditions::{have_passed, is_phase, phase_of};
 use lists::items::Items;
 use ref_state::kinds::Kind;
+use ref_state::limits::BIAS;
 use ref_state::state::{Count, Drain, Editor, Phase, State, View};
 
 fn is_done_placed(editor: &Editor, disk: u32) -> bool

@@ -4,7 +4,7 @@ ghost use Rattle.ref_state.specs.Steps.{is_least, least, least_place, lesser, pl
 ghost use Rattle.ref_allowed.specs.HoldTests.{passes};
 
 use lists::items::Items;
-use ref_state::kinds::Tag;
+use ref_state::kinds::{BARE, Tag};
 use ref_state::state::Hold;
 
 /// What a step asks of the hold that it takes.
@@ -25,7 +25,7 @@ impl HoldTest {
     pub fn passes(&self, h: &Hold) -> bool
         ensures { result ≡ passes self.now h.now }
     {
-        let bare = h.call.kind == 0;
+        let bare = h.call.kind == BARE;
         match self {
             HoldTest::On(disk) => h.disk == *disk,
             HoldTest::MayPut(disk) => h.disk == *disk && (bare || h.executed),

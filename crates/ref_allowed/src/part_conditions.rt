@@ -8,7 +8,7 @@ use crate::entries::entry_index;
 use crate::reference_conditions::keeps_hold;
 use crate::section_conditions::{is_not_loaded, is_out};
 use lists::items::Items;
-use ref_state::kinds::{Tag, Take};
+use ref_state::kinds::{CONTROL, THROUGH, Tag, Take};
 use ref_state::state::{Entry, Hold, LoadedMode, Role, Section, State, View};
 
 fn is_spent(role: &Role) -> bool
@@ -29,14 +29,14 @@ fn entry_at(entries: &Items<Entry>, place: u32) -> Option<Entry>
 
 // A call that is placed for another seat.
 fn is_lent(call: &Tag) -> bool
-    ensures { IsTrue result ↔ ((call.now.kind ≡ 4) ⊎ (call.now.kind ≡ 5)) }
+    ensures { IsTrue result ↔ ((call.now.kind ≡ CONTROL) ⊎ (call.now.kind ≡ THROUGH)) }
 {
-    call.kind == 4 || call.kind == 5
+    call.kind == CONTROL || call.kind == THROUGH
 }
 
 // The entry at the place is kept, and of such a call.
 fn keeps_lent(entries: &Items<Entry>, place: u32) -> bool
-    ensures { IsTrue result ↔ ((e : EntryRecord) × (first (is_at place) entries.now ≡ Some e) × ((e.call.kind ≡ 4) ⊎ (e.call.kind ≡ 5))) }
+    ensures { IsTrue result ↔ ((e : EntryRecord) × (first (is_at place) entries.now ≡ Some e) × ((e.call.kind ≡ CONTROL) ⊎ (e.call.kind ≡ THROUGH))) }
 {
     match entry_at(entries, place) {
         Some(e) => is_lent(&e.call),

@@ -7,6 +7,7 @@ ghost use Rattle.ref_state.specs.Steps.{Some_where, first, is_held, is_slot, is_
 use crate::reference_conditions::keeps_held;
 use lists::items::Items;
 use ref_state::kinds::Tag;
+use ref_state::limits::EXTENTS;
 use ref_state::state::{State, Turn, View};
 
 fn any_turn(turns: &Items<Turn>, slot: u32) -> bool
@@ -42,9 +43,9 @@ pub fn may_take_turn(s: &State, view: &View, slot: u32) -> bool
 
 /// A place is left, and the hold of the command is kept.
 pub fn may_place_execute(s: &State, view: &View, slot: u32, call: Tag) -> bool
-    ensures { IsTrue result ↔ ((0 < view.now.left) × (slot < length s.now.turns) × Some_where (is_held call (slot / 8)) view.now.holds) }
+    ensures { IsTrue result ↔ ((0 < view.now.left) × (slot < length s.now.turns) × Some_where (is_held call (slot / EXTENTS)) view.now.holds) }
 {
-    view.left > 0 && (slot as usize) < s.turns.len() && keeps_held(view, call, slot / 8)
+    view.left > 0 && (slot as usize) < s.turns.len() && keeps_held(view, call, slot / EXTENTS)
 }
 
 /// The turn of the slot is in hand, the extent at home.

@@ -7,6 +7,7 @@ use crate::opening::opened_state;
 use crate::{parts, references, sections, turns};
 use ref_allowed::allowance::may_take_step;
 use ref_state::kinds::{Answer, Kind};
+use ref_state::limits::{EXTENTS, MAX_DISKS, MAX_SEATS};
 use ref_state::state::State;
 use std::alloc::{AllocError, Global};
 use std::marker::Model;
@@ -41,15 +42,15 @@ impl Model for Core {
 }
 
 impl Core {
-    /// One seat for each quota, the number of places that it may draw; `disks` disks of eight slots each; two sides of
+    /// One seat for each quota, the number of places that it may draw; `disks` disks with a slot for each extent; two sides of
     /// `rows` words, all 0. Only want of memory is refused.
     pub fn opened(alloc: Global, quotas: &[u32], disks: u32, rows: u32) -> Result<Core, Memory>
         requires some { 0 < length quotas.now }
-        requires seats { length quotas.now ≤ 32 }
+        requires seats { length quotas.now ≤ MAX_SEATS }
         requires sum { sum_of quotas.now < 2 ^ 32 }
-        requires disks { disks ≤ 64 }
+        requires disks { disks ≤ MAX_DISKS }
         requires rows { disks ≤ rows }
-        ensures { IfOk result (λ c. c ≡ opened_core quotas.now disks (8 * disks) (replicate rows 0)) }
+        ensures { IfOk result (λ c. c ≡ opened_core quotas.now disks (EXTENTS * disks) (replicate rows 0)) }
     {
         let state = opened_state(alloc, quotas, disks, rows)?;
         Ok(Core { state })

@@ -16,4 +16,4 @@ mod turns;
 pub use concurrency::{Core, Memory, allowed, step};
 pub use ref_state::kinds::{Answer, Kind, Tag, Take};
 pub use ref_state::state::State;
-pub use ref_state::{kinds as kinds, laws as laws, state as state};
+pub use ref_state::{kinds as kinds, laws as laws, limits as limits, state as state};

@@ -2,9 +2,9 @@
 ghost use Rattle.std.specs.Prelude.{◌≡◌, ◌+◌, ◌*◌, ◌^◌, ◌<◌, ◌≤◌, ◌∷◌, [], length, replicate, IfOk};
 ghost use Rattle.ref_state.specs.Soundness.{opened_core, live_disk, live_drain, seat_view, seats_from, sum_of};
 
-use crate::references::LIVE;
 use lists::items::Items;
-use ref_allowed::counts::{BIAS, ZERO};
+use ref_allowed::counts::ZERO;
+use ref_state::limits::{BIAS, EXTENTS, LIVE, MAX_DISKS, MAX_SEATS};
 use ref_state::state::{Disk, Drain, Editor, LoadedMode, Mark, Phase, Role, Section, State, View};
 use std::alloc::{AllocError, Global};
 
@@ -126,22 +126,22 @@ fn fresh_editor(
     })
 }
 
-/// The state of an opened core: one seat for each quota, eight slots for each disk, and sides of zeros.
+/// The state of an opened core: one seat for each quota, a slot for each extent of a disk, and sides of zeros.
 pub fn opened_state(
     alloc: Global,
     quotas: &[u32],
     disks: u32,
     rows: u32,
 ) -> Result<State, AllocError>
-    requires seats { length quotas.now ≤ 32 }
+    requires seats { length quotas.now ≤ MAX_SEATS }
     requires sum { sum_of quotas.now < 2 ^ 32 }
-    requires disks { disks ≤ 64 }
-    ensures { IfOk result (λ s. s ≡ opened_core quotas.now disks (8 * disks) (replicate rows 0)) }
+    requires disks { disks ≤ MAX_DISKS }
+    ensures { IfOk result (λ s. s ≡ opened_core quotas.now disks (EXTENTS * disks) (replicate rows 0)) }
 {
     let seats = quotas.len();
     let sides = zero_sides(alloc, rows as usize)?;
     let references = live_disks(alloc, seats, disks as usize)?;
-    let turns = Items::copies(alloc, 8 * disks as usize, 0)?;
+    let turns = Items::copies(alloc, EXTENTS as usize * disks as usize, 0)?;
     let views = fresh_seats(alloc, quotas)?;
     let editor = fresh_editor(alloc, seats, disks as usize, rows as usize)?;
     Ok(State {

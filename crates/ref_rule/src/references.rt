@@ -4,17 +4,12 @@ ghost use Rattle.ref_state.specs.State.{view, disk as disk_at, no_count};
 ghost use Rattle.ref_state.specs.Steps.{next_core, answer_of, count_after, word_after, count_or, hold_of, section_got, loaded_mode, may_put, without_least, after_add};
 
 use lists::items::Items;
-use ref_allowed::counts::{BIAS, ZERO, count_word};
+use ref_allowed::counts::{ZERO, count_word};
 use ref_allowed::holds::{HoldTest, remove_hold};
 use ref_state::kinds::{Answer, Kind, Tag};
+use ref_state::limits::{BIAS, KILLED, LIVE};
 use ref_state::state::{By, Count, Entry, Hold, LoadedMode, Mark, Phase, Section, State, View};
 use std::alloc::{AllocError, Global};
-
-/// The mode word of a live reference.
-pub const LIVE: u64 = 0;
-
-/// The mode word of a killed one.
-pub const KILLED: u64 = 1;
 
 fn mode_of(disk: u32, word: u64) -> LoadedMode
     ensures { result ≡ loaded_mode disk word }

@@ -6,6 +6,7 @@ ghost use Rattle.ref_state.specs.Steps.{next_core, answer_of, is_slot, change, w
 use lists::items::Items;
 use ref_allowed::holds::{HoldTest, hold_place, mark_executed};
 use ref_state::kinds::{Answer, Kind, Tag};
+use ref_state::limits::EXTENTS;
 use ref_state::state::{By, Entry, State, Turn};
 use std::alloc::{AllocError, Global};
 
@@ -100,7 +101,7 @@ pub fn place_execute(
 {
     let (place, serial) = (s.given, s.serial);
     let view = s.views.at(seat as usize);
-    let test = HoldTest::Held(call, slot / 8);
+    let test = HoldTest::Held(call, slot / EXTENTS);
     let by = By::Execute(hold_place(&view.holds, &test));
     let entries = view.entries.with_front(
         alloc,

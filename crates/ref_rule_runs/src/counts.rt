@@ -1,5 +1,6 @@
 //! What is counted over all seats and parts.
 use ref_rule::Tag;
+use ref_rule::kinds::BARE;
 use ref_rule::state::{By, Entry, Hold, Section, State, View};
 
 #[derive(Clone, Copy)]
@@ -20,7 +21,7 @@ pub enum EntryTest {
 
 impl EntryTest {
     fn passes(&self, e: &Entry) -> bool {
-        let bare = e.call.kind == 0;
+        let bare = e.call.kind == BARE;
         match *self {
             EntryTest::Any => true,
             EntryTest::Got => e.got,
@@ -54,7 +55,7 @@ pub enum HoldTest {
 
 impl HoldTest {
     fn passes(&self, h: &Hold) -> bool {
-        let bare = h.call.kind == 0;
+        let bare = h.call.kind == BARE;
         match *self {
             HoldTest::Any => true,
             HoldTest::On(disk) => h.disk == disk,

@@ -1,10 +1,12 @@
 //! Random allowed steps from fixed seeds.
 use crate::driver::{opened, tried};
-use crate::references::{BIAS, word_sum};
+use crate::references::word_sum;
 use crate::soundness::first_broken;
 use lists::items::Items;
 use rand_core::utils::NextWord;
 use rand_pcg::Pcg32;
+use ref_rule::kinds::{BARE, CONTROL, DONE, EDIT, EXECUTE, SUBMIT, THROUGH};
+use ref_rule::limits::{BIAS, EXTENTS};
 use ref_rule::state::{Count, LoadedMode, Mark, Phase, Role, State, View};
 use ref_rule::{Kind, Tag, Take};
 use std::alloc::Global;
@@ -35,10 +37,10 @@ fn roll(dice: &mut Pcg32, sides: u32) -> u32 {
 // A call that takes a place in a section: mostly a submit, else a bare call, or one that is placed for another seat.
 fn drawn_call(dice: &mut Pcg32, caller: u32, number: u32) -> Tag {
     let kind = match roll(dice, 6) {
-        0 => 0,
-        1 => 4,
-        2 => 5,
-        _ => 1,
+        0 => BARE,
+        1 => CONTROL,
+        2 => THROUGH,
+        _ => SUBMIT,
     };
     Tag {
         kind,
@@ -53,8 +55,11 @@ fn execute(dice: &mut Pcg32, view: &View) -> Kind {
     let extent = roll(dice, 8);
     match view.holds.as_slice().get(n) {
         Some(h) => Kind::PlaceExecute {
-            slot: h.disk.wrapping_mul(8).wrapping_add(extent),
-            call: Tag { kind: 2, ..h.call },
+            slot: h.disk.wrapping_mul(EXTENTS).wrapping_add(extent),
+            call: Tag {
+                kind: EXECUTE,
+                ..h.call
+            },
         },
         None => Kind::EnterSection,
     }
@@ -149,7 +154,7 @@ fn editor_kind(dice: &mut Pcg32, s: &State) -> Kind {
     let other = roll(dice, 3);
     let number = s.given;
     let call = Tag {
-        kind: 6,
+        kind: EDIT,
         caller: 0,
         number,
     };
@@ -165,7 +170,7 @@ fn editor_kind(dice: &mut Pcg32, s: &State) -> Kind {
         11 => Kind::LookZero { disk },
         12 => Kind::PlaceDone {
             disk,
-            call: Tag { kind: 7, ..call },
+            call: Tag { kind: DONE, ..call },
         },
         13 => Kind::LiveShared { disk },
         14 => Kind::LiveMode { disk },

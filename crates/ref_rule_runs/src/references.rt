@@ -2,10 +2,8 @@
 use crate::counts::{EntryTest, HoldTest, entries, holds};
 use crate::grace::{all_passed, is_awaited, read_serial};
 use lists::items::Items;
+use ref_rule::limits::BIAS;
 use ref_rule::state::{Count, Disk, Drain, LoadedMode, Phase, Section, State, View};
-
-/// 2^63.
-pub const BIAS: u64 = 0x8000_0000_0000_0000;
 
 /// The sum of the counters modulo 2^64.
 pub fn word_sum(counts: &Items<Count>) -> u64 {

@@ -1,7 +1,8 @@
 //! Tables of steps, each with the answer that it must give, or none where it must not be allowed.
 use crate::driver::{opened, tried_with_care};
 use crate::soundness::first_broken;
-use ref_rule::{Answer, Kind, Tag, Take};
+use ref_rule::limits::BIAS;
+use ref_rule::{Answer, Kind, Tag, Take, kinds};
 use std::alloc::Global;
 use std::process::Abort;
 
@@ -12,48 +13,47 @@ const DONE: Option<Answer> = Some(Answer::Nothing);
 const ZERO: Option<Answer> = Some(Answer::Word(0));
 
 // 2^63, and 2^64 - 1.
-const BIAS: u64 = 0x8000_0000_0000_0000;
 
 const BELOW_ZERO: u64 = 0xFFFF_FFFF_FFFF_FFFF;
 
 const BARE: Tag = Tag {
-    kind: 0,
+    kind: kinds::BARE,
     caller: 2,
     number: 0,
 };
 
 const FIRST: Tag = Tag {
-    kind: 1,
+    kind: kinds::SUBMIT,
     caller: 1,
     number: 0,
 };
 
 const SECOND: Tag = Tag {
-    kind: 1,
+    kind: kinds::SUBMIT,
     caller: 1,
     number: 1,
 };
 
 const FIRST_EXECUTE: Tag = Tag {
-    kind: 2,
+    kind: kinds::EXECUTE,
     caller: 1,
     number: 0,
 };
 
 const SECOND_EXECUTE: Tag = Tag {
-    kind: 2,
+    kind: kinds::EXECUTE,
     caller: 1,
     number: 1,
 };
 
 const EDIT: Tag = Tag {
-    kind: 6,
+    kind: kinds::EDIT,
     caller: 0,
     number: 0,
 };
 
 const END: Tag = Tag {
-    kind: 7,
+    kind: kinds::DONE,
     caller: 0,
     number: 1,
 };

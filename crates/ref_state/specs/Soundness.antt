@@ -3,6 +3,7 @@
 use Rattle.std.specs.Prelude.{◌≡◌, ◌≢◌, ◌⊎◌, ◌↔◌, ℕ, ◌+◌, ◌-◌, ◌%◌, ◌<◌, ◌≤◌, Bool, true, false, not, ◌==◌, nat_le, List, [], ◌∷◌, length, slice_index, slice_index_or, replicate, Some, None}
 use mathlib.Core.Option.{some}
 use lib.ListN.{get_elem?}
+use Rattle.ref_state.specs.declared.limits.TheConstants.{LIVE}
 use Rattle.ref_state.specs.declared.kinds.Tag.{Tag}
 use Rattle.ref_state.specs.declared.state.Entry.{Entry}
 use Rattle.ref_state.specs.declared.state.Section.TheVariants.{Out}
@@ -155,7 +156,7 @@ LoadedModeFits k j v (Killed d) = (is_open v.section ≡ true) × MayLoad k v d 
 
 -- The mode is live exactly in the phase live, and a loaded one is still good for one step on a counter
 pub record ModeSnapshots (n : ℕ) (disks : List Disk) (k : Editor) (views : List View) : Type 0 where
-  pub mode : (d : ℕ) → ((slice_index_or disks d no_disk).mode ≡ 0) ↔ ((drain k d).phase ≡ phase.Live)
+  pub mode : (d : ℕ) → ((slice_index_or disks d no_disk).mode ≡ LIVE) ↔ ((drain k d).phase ≡ phase.Live)
   pub loaded : Each views (λ j v. LoadedModeFits k j v v.loaded)
   -- a counter that was looked at since the kill stands as it was looked at, since every seat had passed before
   pub looked : (d : ℕ) → (drain k d).phase ≡ phase.Killed → (o : ℕ) (x : Count) → slice_index_or (drain k d).looked o None ≡ Some x
@@ -218,7 +219,7 @@ abbrev pub sum_of : List ℕ → ℕ
 sum_of qs = total (λ q. q) qs
 
 abbrev pub live_disk : ℕ → Disk
-live_disk seats = record { mode = 0; shared = bias; own = replicate seats no_count }
+live_disk seats = record { mode = LIVE; shared = bias; own = replicate seats no_count }
 
 abbrev pub live_drain : ℕ → Drain
 live_drain seats = record { phase = phase.Live; done_placed = false; bases = replicate seats no_count; looked = []; marks = replicate seats Passed }

@@ -3,6 +3,8 @@
 use Rattle.std.specs.Prelude.{◌≡◌, ◌≢◌, ◌⊎◌, ℕ, ◌+◌, ◌-◌, ◌%◌, ◌<◌, Bool, true, false, not, ◌&&◌, ◌==◌, nat_le, if◌then◌else◌, List, [], ◌∷◌, ◌++◌, slice_index, slice_index_or, slice_set, Option, Some, None}
 use mathlib.Core.Option.{some}
 use lib.ListN.{get_elem?}
+use Rattle.ref_state.specs.declared.limits.TheConstants.{BIAS, LIVE}
+use Rattle.ref_state.specs.declared.kinds.TheConstants.{BARE}
 use Rattle.ref_state.specs.declared.kinds.Tag.{Tag}
 use Rattle.ref_state.specs.declared.state.By.{By}
 use Rattle.ref_state.specs.declared.state.By.TheVariants.{Publish, Execute}
@@ -28,9 +30,9 @@ use Rattle.ref_state.specs.declared.state.State.{State as Core}
 abbrev pub At : List View → ℕ → View → Type 0
 At views j v = get_elem? views j ≡ some v
 
--- the bias of a shared count, 2^63. While it is in, no put can find the count at 0 (PERCPU_COUNT_BIAS)
+-- the bias of a shared count. While it is in, no put can find the count at 0
 abbrev pub bias : ℕ
-bias = 9223372036854775808
+bias = BIAS
 
 -- the words are modulo this, 2^64
 abbrev pub word_end : ℕ
@@ -68,7 +70,7 @@ one_if false = 0
 
 -- a bare call changes nothing and has no Execute
 abbrev pub is_bare : Tag → Bool
-is_bare t = t.kind == 0
+is_bare t = t.kind == BARE
 
 abbrev pub is_publish : By → Bool
 is_publish Publish = true
@@ -217,7 +219,7 @@ looked Passed w = Passed
 
 -- what is read at a disk that isn't there
 abbrev pub no_disk : Disk
-no_disk = record { mode = 0; shared = 0; own = [] }
+no_disk = record { mode = LIVE; shared = 0; own = [] }
 
 abbrev pub no_drain : Drain
 no_drain = record { phase = phase.Live; done_placed = false; bases = []; looked = []; marks = [] }

@@ -1,6 +1,8 @@
 -- The kinds of atomic step: where each is allowed, what it makes of the core, and what it answers. Each is one step on one word or slot, or
 -- on none; beside that word it changes what the stepping seat keeps, and nothing of another seat. `split` and `join` have two.
 use Rattle.std.specs.Prelude.{◌≡◌, ◌≢◌, ◌⊎◌, ℕ, zero, suc, ◌+◌, ◌-◌, ◌/◌, ◌%◌, ◌<◌, Bool, true, false, not, nat_le, ◌&&◌, ◌==◌, if◌then◌else◌, List, [], ◌∷◌, ◌++◌, map, length, max, replicate, slice_index, slice_index_or, slice_set, Option, Some, None}
+use Rattle.ref_state.specs.declared.limits.TheConstants.{EXTENTS, LIVE, KILLED}
+use Rattle.ref_state.specs.declared.kinds.TheConstants.{CONTROL, THROUGH}
 use Rattle.ref_state.specs.declared.kinds.Tag.{Tag}
 use Rattle.ref_state.specs.declared.kinds.Take.{Take}
 use Rattle.ref_state.specs.declared.kinds.Take.TheVariants as take
@@ -187,7 +189,7 @@ abbrev pub MayTake : Take → View → Type 0
 MayTake take.Nothing v = Unit {0}
 MayTake (take.Hold d) v = Some_where (is_on d) v.holds
 MayTake take.Place v = 0 < v.left
-MayTake (take.Entry p) v = (e : Entry) × (first (is_at p) v.entries ≡ Some e) × ((e.call.kind ≡ 4) ⊎ (e.call.kind ≡ 5))
+MayTake (take.Entry p) v = (e : Entry) × (first (is_at p) v.entries ≡ Some e) × ((e.call.kind ≡ CONTROL) ⊎ (e.call.kind ≡ THROUGH))
 
 -- v with all that u kept
 abbrev pub after_join : View → View → View
@@ -276,7 +278,7 @@ after_step c j v (Split t) = record c { views = slice_set c.views j (after_split
 after_step c j v (Join p) = record c { views = slice_set (slice_set c.views j (after_join v (view c.views p))) p (spent_view (view c.views p)) }
 -- the mode is killed first, and the grace period begins with it: who enters later loads killed, and only older sections have live in hand
 after_step c j v (Kill d) =
-    with_drain (with_disk c d (record (disk c d) { mode = 1 })) d
+    with_drain (with_disk c d (record (disk c d) { mode = KILLED })) d
     (record (drain c.editor d) { phase = phase.Killed; marks = fresh_marks c; looked = replicate c.seats None })
 after_step c j v (LookCounter d o) =
     with_drain c d (record (drain c.editor d) { looked = slice_set (drain c.editor d).looked o (Some (slice_index_or (disk c d).own o no_count)) })
@@ -289,14 +291,14 @@ after_step c j v (PlaceDone d t) =
     with_drain (record (with_view c j (after_finish c (new_entry c t by.Done) v)) { given = c.given + 1 }) d (record (drain c.editor d) { done_placed = true })
 -- the bias goes back before the mode: a reader that finds the mode live must not leave a count that looks like 0
 after_step c j v (LiveShared d) = with_drain (with_disk c d (record (disk c d) { shared = bias })) d (record (drain c.editor d) { phase = phase.Armed })
-after_step c j v (LiveMode d) = with_drain (with_disk c d (record (disk c d) { mode = 0 })) d (record (drain c.editor d) { phase = phase.Live })
+after_step c j v (LiveMode d) = with_drain (with_disk c d (record (disk c d) { mode = LIVE })) d (record (drain c.editor d) { phase = phase.Live })
 -- one try of a compare-exchange: a turn that isn't 0 changes nothing
 after_step c j v (TakeTurn s) =
     if slice_index c.turns s == 0
     then with_view (record c { turns = slice_set c.turns s (j + 1) }) j (record v { turns = record { slot = s; out = false } ∷ v.turns })
     else c
 after_step c j v (SlotOut s) = with_view c j (record v { turns = change (is_slot s) (λ t. record t { out = true }) v.turns })
-after_step c j v (PlaceExecute s t) = record (with_view c j (after_execute c t (s / 8) v)) { given = c.given + 1 }
+after_step c j v (PlaceExecute s t) = record (with_view c j (after_execute c t (s / EXTENTS) v)) { given = c.given + 1 }
 after_step c j v (SlotIn s) = with_view c j (record v { turns = change (is_slot s) (λ t. record t { out = false }) v.turns })
 after_step c j v (GiveTurn s) = with_view (record c { turns = slice_set c.turns s 0 }) j (record v { turns = without (is_slot s) v.turns })
 
@@ -311,7 +313,7 @@ abbrev pub MayAdd : Editor → View → ℕ → Bool → Type 0
 MayAdd k v d true = ((s : ℕ) × Reads v s × Shows k s d) × (has_none v.section ≡ true)
 MayAdd k v d false = Some_where (may_put d) v.holds
 
--- the seat j, which keeps v, may take a step of this kind. Seat 0 is the editor's; a disk's slots are 8 times its number and the seven after
+-- the seat j, which keeps v, may take a step of this kind. Seat 0 is the editor's; a disk has `EXTENTS` slots, one after another
 abbrev pub MayStep : Core → ℕ → View → Kind → Type 0
 MayStep c j v EnterSection = v.section ≡ Out
 MayStep c j v (DrawPlace t) = (v.section ≡ In) × (0 < v.left)
@@ -338,7 +340,7 @@ MayStep c j v (LiveShared d) = (j ≡ 0) × (d < length c.disks) × ((drain c.ed
 MayStep c j v (LiveMode d) = (j ≡ 0) × (d < length c.disks) × ((drain c.editor d).phase ≡ phase.Armed)
 MayStep c j v (TakeTurn s) = (s < length c.turns) × (first (is_slot s) v.turns ≡ None)
 MayStep c j v (SlotOut s) = Some_where (is_home_slot s) v.turns
-MayStep c j v (PlaceExecute s t) = (0 < v.left) × (s < length c.turns) × Some_where (is_held t (s / 8)) v.holds
+MayStep c j v (PlaceExecute s t) = (0 < v.left) × (s < length c.turns) × Some_where (is_held t (s / EXTENTS)) v.holds
 MayStep c j v (SlotIn s) = Some_where (is_out_slot s) v.turns
 MayStep c j v (GiveTurn s) = Some_where (is_home_slot s) v.turns
 

@@ -1,9 +1,33 @@
 //! The kinds of atomic step, and what each answers.
 
-/// The name of the call that takes a place. Kind 0 is a bare call, which changes nothing; 1 a submit; 2 its Execute;
-/// 3 a poll; 4 and 5 calls that are placed for another seat; 6 an edit; 7 a Done.
+/// The kind of a bare call, which changes nothing.
+pub const BARE: u8 = 0;
+
+/// The kind of a submit.
+pub const SUBMIT: u8 = 1;
+
+/// The kind of a submit's Execute.
+pub const EXECUTE: u8 = 2;
+
+/// The kind of a poll for events.
+pub const POLL: u8 = 3;
+
+/// The kind of a fabrics command, which the editor's seat places for the queue's.
+pub const CONTROL: u8 = 4;
+
+/// The kind of a command that is passed through, which the editor's seat places for the queue's.
+pub const THROUGH: u8 = 5;
+
+/// The kind of an edit of the configuration.
+pub const EDIT: u8 = 6;
+
+/// The kind of a Done, the end of a drain.
+pub const DONE: u8 = 7;
+
+/// The name of the call that takes a place.
 #[derive(Clone, Copy, PartialEq, Eq, Debug)]
 pub struct Tag {
+    /// One of `BARE` to `DONE`.
     pub kind: u8,
     /// The queue or editor whose call it is.
     pub caller: u32,
@@ -19,7 +43,7 @@ pub enum Take {
     Hold(u32),
     /// One place of the quota.
     Place,
-    /// The finished entry of a call of kind 4 or 5 at this place.
+    /// The finished entry of a call of kind `CONTROL` or `THROUGH` at this place.
     Entry(u32),
 }
 

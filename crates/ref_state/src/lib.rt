@@ -8,4 +8,5 @@
 
 pub mod kinds;
 pub mod laws;
+pub mod limits;
 pub mod state;

@@ -63,7 +63,7 @@ pub enum LoadedMode {
 /// A turn that a seat has: it alone reaches the extent.
 #[derive(Clone, Copy)]
 pub struct Turn {
-    /// 8 times the disk, plus the extent.
+    /// `EXTENTS` times the disk, plus the extent.
     pub slot: u32,
     /// The extent is in hand, and not at home in its slot.
     pub out: bool,
@@ -169,9 +169,9 @@ pub struct Editor {
 /// The shared words of one disk's reference.
 #[derive(Drop)]
 pub struct Disk {
-    /// 0 is live, 1 killed.
+    /// `LIVE` or `KILLED`.
     pub mode: u64,
-    /// The shared count, with the bias 2^63 while the reference is live.
+    /// The shared count, with the bias (`BIAS`) while the reference is live.
     pub shared: u64,
     /// One own counter per seat.
     pub own: Items<Count>,
