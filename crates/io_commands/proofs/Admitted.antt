@@ -51,10 +51,12 @@ unfolding payload_len host_len direction_of
 read_lens e op = rw op (refl, refl)
 
 -- by which of the commands it is
-job_by : (e : Sqe) (row : NsRow) (w r z : Bool) → (e.opcode == WRITE) ≡ w → (e.opcode == READ) ≡ r → (e.opcode == WRITE_ZEROES) ≡ z
+job_by : (e : Sqe) (row : NsRow) (w r z : Bool) → (e.opcode == WRITE) ≡ w → (e.opcode == READ) ≡ r
+    → (e.opcode == WRITE_ZEROES) ≡ z
     → (e.opcode ≢ FLUSH → first_block e + block_count e ≤ row.blocks)
     → e.sgl_len ≡ (cond (w || r) (block_count e * 2 ^ row.shift) 0)
     → (IsTrue (w || r) → e.sgl_len ≤ MAX_TRANSFER)
+   
     → IsJobOf e row (cond w (jobs.Write row.disk (first_block e) (block_count e)) (cond r (jobs.Read row.disk (first_block e) (block_count e)) (cond z (jobs.Zero row.disk (first_block e) (block_count e)) (jobs.Flush row.disk))))
 job_by e row true r z isw isr isz inside len few =
     let op : e.opcode ≡ WRITE = grind arith in
@@ -94,7 +96,9 @@ job_by e row false false false isw isr isz inside len few = record {
 }
 
 -- the job of a command whose range, length and transfer are in order
-pub job_of_fits : (e : Sqe) (row : NsRow) → (e.opcode ≢ FLUSH → first_block e + block_count e ≤ row.blocks) → e.sgl_len ≡ bytes_named e row
+pub job_of_fits : (e : Sqe) (row : NsRow)
+    → (e.opcode ≢ FLUSH → first_block e + block_count e ≤ row.blocks)
+    → e.sgl_len ≡ bytes_named e row
     → (IsTrue (moves_data e.opcode) → e.sgl_len ≤ MAX_TRANSFER) → IsJobOf e row (job_of e row)
 job_of_fits e row inside len few = job_by e row (e.opcode == WRITE) (e.opcode == READ) (e.opcode == WRITE_ZEROES) refl refl refl inside len few
 
@@ -105,23 +109,28 @@ run_same : (j k : Job) → Run j ≡ Run k → j ≡ k
 run_same j k e = cc
 
 -- a check that a command passed
-cond_ran : (b : Bool) (status : ℕ) (x : Admit) (job : Job) → cond b (Refused status) x ≡ Run job → (b ≡ false) × (x ≡ Run job)
+cond_ran : (b : Bool) (status : ℕ) (x : Admit) (job : Job) → cond b (Refused status) x ≡ Run job
+    → (b ≡ false) × (x ≡ Run job)
 cond_ran true status x job e = absurd (not_run status job e)
 cond_ran false status x job e = (refl, e)
 
-cond_bars : (b : Bool) (status : ℕ) (x : Admit) (job : Job) → cond b x (Refused status) ≡ Run job → x ≡ Run job
+cond_bars : (b : Bool) (status : ℕ) (x : Admit) (job : Job) → cond b x (Refused status) ≡ Run job
+    → x ≡ Run job
 cond_bars true status x job e = e
 cond_bars false status x job e = absurd (not_run status job e)
 
 -- what the checks of range, length and transfer say of a command that passed them
-within : (e : Sqe) (row : NsRow) → (not (e.opcode == FLUSH) && nat_lt row.blocks (first_block e + block_count e)) ≡ false
+within : (e : Sqe) (row : NsRow)
+    → (not (e.opcode == FLUSH) && nat_lt row.blocks (first_block e + block_count e)) ≡ false
     → e.opcode ≢ FLUSH → first_block e + block_count e ≤ row.blocks
 within e row off other = grind arith
 
-named : (e : Sqe) (row : NsRow) → not (e.sgl_len == bytes_named e row) ≡ false → e.sgl_len ≡ bytes_named e row
+named : (e : Sqe) (row : NsRow) → not (e.sgl_len == bytes_named e row) ≡ false
+    → e.sgl_len ≡ bytes_named e row
 named e row same = grind arith
 
-carried : (e : Sqe) (row : NsRow) → (moves_data e.opcode && nat_lt MAX_TRANSFER e.sgl_len) ≡ false → IsTrue (moves_data e.opcode)
+carried : (e : Sqe) (row : NsRow) → (moves_data e.opcode && nat_lt MAX_TRANSFER e.sgl_len) ≡ false
+    → IsTrue (moves_data e.opcode)
     → e.sgl_len ≤ MAX_TRANSFER
 carried e row small moves = grind arith
 
@@ -142,11 +151,13 @@ range_job e row job is =
     let small : moves_data e.opcode && nat_lt MAX_TRANSFER e.sgl_len ≡ false = c.0 in
     subst (λ (j : Job). IsJobOf e row j) (run_same (job_of e row) job c.1) (job_of_fits e row (within e row off) (named e row same) (carried e row small))
 
-bars_job : (e : Sqe) (row : NsRow) (status : ℕ) (job : Job) → by_bars e row status ≡ Run job → IsJobOf e row job
+bars_job : (e : Sqe) (row : NsRow) (status : ℕ) (job : Job) → by_bars e row status ≡ Run job
+    → IsJobOf e row job
 unfolding by_bars
 bars_job e row status job is = range_job e row job (cond_bars (status == 0) status (by_range e row) job is)
 
-state_job : (e : Sqe) (row : NsRow) (a : Ana) (bars : ℕ) (job : Job) → by_state e row a bars ≡ Run job → IsJobOf e row job
+state_job : (e : Sqe) (row : NsRow) (a : Ana) (bars : ℕ) (job : Job)
+    → by_state e row a bars ≡ Run job → IsJobOf e row job
 unfolding by_state
 state_job e row Optimized bars job is = bars_job e row bars job is
 state_job e row NonOptimized bars job is = bars_job e row bars job is
@@ -154,7 +165,8 @@ state_job e row Inaccessible bars job is = absurd (not_run _ job is)
 state_job e row PersistentLoss bars job is = absurd (not_run _ job is)
 state_job e row Changing bars job is = absurd (not_run _ job is)
 
-namespace_job : (v : View) (e : Sqe) (s : Seen) (job : Job) → v.ns e.nsid ≡ s → by_namespace v e s ≡ Run job → IsOnSeen v e job
+namespace_job : (v : View) (e : Sqe) (s : Seen) (job : Job) → v.ns e.nsid ≡ s
+    → by_namespace v e s ≡ Run job → IsOnSeen v e job
 unfolding by_namespace
 namespace_job v e NotConfigured job seen is = absurd (not_run _ job is)
 namespace_job v e Off job seen is = absurd (not_run _ job is)

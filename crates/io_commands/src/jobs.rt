@@ -22,6 +22,7 @@ pub enum Admit {
 
 /// Does a job on its disk (NVM Command Set 1.0, 3.2): a Read's blocks are appended to `to`, which has room for them; a
 /// Write puts its data there, a Write Zeroes zeros. Always does it, and takes no memory.
+#[inline(always)]
 pub fn do_io(job: &Job, disk: &mut Disk, payload: &[u8], to: &mut Buffer)
     requires inside { end_of job.now ≤ length disk.old.blocks }
     requires data { HasData job.now disk.old.shift (length payload.now) }

@@ -59,6 +59,7 @@ impl Buffer {
     }
 
     /// How many bytes it holds.
+    #[inline(always)]
     pub fn len(&self) -> usize
         ensures value { result ≡ length self.now.bytes }
         ensures small { result ≤ self.now.room }
@@ -74,6 +75,7 @@ impl Buffer {
     }
 
     /// Appends bytes, for which there is room. Takes no memory.
+    #[inline(always)]
     pub fn put(&mut self, bytes: &[u8])
         requires { HasRoom self.old (length bytes.now) }
         ensures { self.new ≡ appended self.old bytes.now }
@@ -93,6 +95,7 @@ impl Buffer {
     }
 
     /// Writes over bytes that stand, from the byte `at` on: a head that is known after what follows it. Takes no memory.
+    #[inline(always)]
     pub fn write_at(&mut self, at: usize, bytes: &[u8])
         requires { at + length bytes.now ≤ length self.old.bytes }
         ensures { self.new ≡ with_bytes self.old (overwritten self.old.bytes at bytes.now) }

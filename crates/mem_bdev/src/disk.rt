@@ -118,6 +118,7 @@ impl Disk {
     }
 
     /// Appends the bytes of `count` blocks from the block `lba` on, for which there is room: one copy. Takes no memory.
+    #[inline(always)]
     pub fn append(&self, lba: u64, count: u64, to: &mut Buffer)
         requires inside { IsInside self.now lba count }
         requires room { HasRoom to.old (count * 2 ^ self.now.shift) }

@@ -12,6 +12,7 @@ pub(crate) fn copy_out(bytes: &[u8], start: usize, to: &mut [u8])
 }
 
 // Lends so many bytes from a place on.
+#[inline(always)]
 pub(crate) fn piece(bytes: &[u8], start: usize, len: usize) -> &[u8]
     requires { start + len ≤ length bytes.now }
     ensures value { result.now ≡ take len (drop start bytes.now) }
@@ -21,6 +22,7 @@ pub(crate) fn piece(bytes: &[u8], start: usize, len: usize) -> &[u8]
 }
 
 // Copies to a place in `bytes`.
+#[inline(always)]
 pub(crate) fn copy_in(bytes: &mut [u8], start: usize, from: &[u8])
     requires { start + length from.now ≤ length bytes.old }
     ensures { bytes.new ≡ overwritten bytes.old start from.now }

@@ -13,14 +13,17 @@ use Rattle.nvmet_run.specs.Runs.{Placed}
 use Rattle.nvmet_run.specs.Printing.{entry_bytes, responses, kind_of, head_of, payload_count, submit_count, execute_count, refusal_count}
 use Rattle.nvmet_run.specs.Prints.{Prints, IsRecordOf, Counts}
 
-responses-push : (list : List Placed) (p : Placed) → responses (list ++ p ∷ []) ≡ responses list ++ entry_bytes p
+responses-push : (list : List Placed) (p : Placed)
+    → responses (list ++ p ∷ []) ≡ responses list ++ entry_bytes p
 responses-push list p = rw flat_map-append (ap (λ (r : List ℕ). responses list ++ r) (append-nil (entry_bytes p)))
 
-sum-more : (f : Placed → ℕ) (n k : ℕ) (list : List Placed) (p : Placed) → n ≡ sum_by f list → k ≡ f p → n + k ≡ sum_by f (list ++ p ∷ [])
+sum-more : (f : Placed → ℕ) (n k : ℕ) (list : List Placed) (p : Placed) → n ≡ sum_by f list
+    → k ≡ f p → n + k ≡ sum_by f (list ++ p ∷ [])
 sum-more f n k list p a b = omega (arith, sum_by-append f list (p ∷ []), a, b)
 
 -- the record of an entry by its parts
-entry-is : (p : Placed) (place : ℕ) (kind : Kind) (number : ℕ) (reply : Reply) (payload : ℕ) (bytes : List ℕ) → IsRecordOf p place kind number reply payload bytes
+entry-is : (p : Placed) (place : ℕ) (kind : Kind) (number : ℕ) (reply : Reply) (payload : ℕ) (bytes : List ℕ)
+    → IsRecordOf p place kind number reply payload bytes
     → entry_bytes p ≡ record_bytes (head_of place kind number reply (length bytes)) bytes
 unfolding entry_bytes
 entry-is p place kind number reply payload bytes r = rw (r.is_place, r.is_kind, r.is_number, r.is_reply, r.is_bytes) refl
@@ -35,8 +38,10 @@ pub record Adds (old new : Output) (place : ℕ) (kind : Kind) (number : ℕ) (r
   pub taken : new.taken ≡ old.taken + payload
   pub given : new.given ≡ old.given + length bytes
 
-pub prints_more : (old new : Output) (place : ℕ) (kind : Kind) (number : ℕ) (reply : Reply) (payload : ℕ) (bytes : List ℕ) → Adds old new place kind number reply payload bytes
-    → (list : List Placed) (p : Placed) → Prints old list → IsRecordOf p place kind number reply payload bytes → Prints new (list ++ p ∷ [])
+pub prints_more : (old new : Output) (place : ℕ) (kind : Kind) (number : ℕ) (reply : Reply) (payload : ℕ) (bytes : List ℕ)
+    → Adds old new place kind number reply payload bytes
+    → (list : List Placed) (p : Placed) → Prints old list
+    → IsRecordOf p place kind number reply payload bytes → Prints new (list ++ p ∷ [])
 prints_more old new place kind number reply payload bytes a list p prints r =
     record {
       records =
@@ -53,9 +58,12 @@ prints_more old new place kind number reply payload bytes a list p prints r =
 
 -- a record was appended, and then the call was counted
 pub adds : (old mid new : Output) (place : ℕ) (kind : Kind) (number : ℕ) (reply : Reply) (payload given : ℕ) (bytes : List ℕ)
+   
     → mid.records.bytes ≡ old.records.bytes ++ record_bytes (head_of place kind number reply (length bytes)) bytes
-    → mid.places ≡ old.places → mid.submitted ≡ old.submitted → mid.executed ≡ old.executed → mid.refused ≡ old.refused → mid.taken ≡ old.taken → mid.given ≡ old.given
-    → given ≡ length bytes → Counts mid new kind reply payload given → Adds old new place kind number reply payload bytes
+    → mid.places ≡ old.places → mid.submitted ≡ old.submitted → mid.executed ≡ old.executed
+    → mid.refused ≡ old.refused → mid.taken ≡ old.taken → mid.given ≡ old.given
+    → given ≡ length bytes → Counts mid new kind reply payload given
+    → Adds old new place kind number reply payload bytes
 adds old mid new place kind number reply payload given bytes records p s e r t g len c = record {
   records = ap (λ (x : Text). x.bytes) c.records ∙ records;
   places = omega (arith, c.places, p);

@@ -89,6 +89,7 @@ fn write_call(h: &Head) -> [u8; 16]
 }
 
 /// The 32 bytes of a record's head: its fields one after another, each little-endian.
+#[inline(always)]
 pub fn write_head(h: &Head) -> [u8; HEAD_BYTES]
     ensures { result ≡ head_bytes h.now }
 {

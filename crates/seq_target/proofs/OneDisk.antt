@@ -1,14 +1,11 @@
 -- The calls of a target over one disk.
-use Rattle.std.proofs.Common.{◌≡◌, ◌≤◌, ℕ, true, List, [], ◌∷◌, length, Option, Some, None, refl, sym, ap, subst, ◌∙◌, arith, eqb}
+use Rattle.std.proofs.Common.{◌≡◌, ℕ, true, List, [], ◌∷◌, length, Option, Some, None, refl, sym, ap, subst, ◌∙◌, arith, eqb}
 use Rattle.mem_bdev.specs.Blocks.{Blocks}
-use Rattle.mem_bdev.specs.declared.limits.TheConstants.{MAX_TRANSFER}
 use Rattle.sqe_cqe.specs.declared.sqe.Sqe.{Sqe}
-use Rattle.sqe_cqe.specs.Sqe.{payload_len, host_len}
 use Rattle.io_commands.specs.declared.jobs.Job.{Job}
-use Rattle.io_commands.specs.declared.jobs.Job.TheVariants.{Read, Write, Zero, Flush}
 use Rattle.io_commands.specs.declared.jobs.Admit.TheVariants.{Refused, Run}
-use Rattle.io_commands.specs.Jobs.{disk_of, bytes_read, blocks_after, taken_len, HasData}
-use Rattle.io_commands.specs.Admission.{io_admission, IsJobOf}
+use Rattle.io_commands.specs.Jobs.{disk_of, bytes_read, blocks_after}
+use Rattle.io_commands.specs.Admission.{io_admission}
 use Rattle.seq_target.specs.declared.calls.Reply.{Reply}
 use Rattle.seq_target.specs.declared.calls.Reply.TheVariants as replies
 use Rattle.seq_target.specs.declared.target.Command.{Command}
@@ -20,17 +17,19 @@ use Rattle.seq_target.specs.Views.{view_at}
 use Rattle.seq_target.specs.Admission.{Admission, held_in, admission}
 use Rattle.seq_target.specs.Admission as model
 use Rattle.seq_target.specs.Steps.{reply_of, bytes_of, changed, target_after}
-use Rattle.seq_target.specs.Stands.{StandsFor, Simulates, IsHolding, IsIdle, simple_admission, simple_disk, simple_ns}
+use Rattle.seq_target.specs.Stands.{StandsFor, Simulates, IsIdle, simple_admission, simple_disk}
 use Rattle.seq_target.proofs.Simple.{named, simple_view, simple_qid}
 
-pub admission-is : (c : Kept) (t : Target) (e : Sqe) (st : StandsFor c t) → admission t 1 e ≡ held_in (simple_disk st.path c.disk ∷ []) (simple_admission e c.disk)
+pub admission-is : (c : Kept) (t : Target) (e : Sqe) (st : StandsFor c t)
+    → admission t 1 e ≡ held_in (simple_disk st.path c.disk ∷ []) (simple_admission e c.disk)
 unfolding admission
 admission-is c t e st =
     let on : admission t 1 e ≡ held_in t.disks (io_admission (view_at t 1 named) e) = rw st.bindings refl in
     on ∙ ap (λ (v : View). held_in t.disks (io_admission v e)) (simple_view c t st) ∙ ap (λ (d : List Disk). held_in d (simple_admission e c.disk)) st.disks
 
 -- the history aside, a target stands for what a call leaves
-stands_after : (c : Kept) (t t' : Target) (call : Call) → changed t call ≡ t' → StandsFor c t' → StandsFor c (target_after t call)
+stands_after : (c : Kept) (t t' : Target) (call : Call) → changed t call ≡ t' → StandsFor c t'
+    → StandsFor c (target_after t call)
 stands_after c t t' call e st = record {
   path = st.path;
   settings = ap (λ (x : Target). x.settings) e ∙ st.settings;
@@ -42,7 +41,9 @@ stands_after c t t' call e st = record {
 abbrev pub reply_at : ℕ → ℕ → Reply
 reply_at cid status = replies.Answered (record { result = 0; sq_head = 0; sq_id = 1; cid = cid; status = status })
 
-pub does_refused : (c : Kept) (number : ℕ) (e : Sqe) (status : ℕ) → Refused status ≡ simple_admission e c.disk → Simulates c (Submit 1 number e) (reply_at e.cid status) [] c
+pub does_refused : (c : Kept) (number : ℕ) (e : Sqe) (status : ℕ)
+    → Refused status ≡ simple_admission e c.disk
+    → Simulates c (Submit 1 number e) (reply_at e.cid status) [] c
 unfolding reply_of bytes_of changed
 does_refused c number e status h t st =
     let a : admission t 1 e ≡ model.Refused status = admission-is c t e st ∙ rw (← h) refl in
@@ -53,7 +54,8 @@ does_refused c number e status h t st =
       stands = stands_after c t t (Submit 1 number e) (rw a refl) st;
     }
 
-pub does_held : (c : Kept) (number : ℕ) (e : Sqe) (job : Job) → Run job ≡ simple_admission e c.disk → disk_of job ≡ 0 → IsIdle c
+pub does_held : (c : Kept) (number : ℕ) (e : Sqe) (job : Job) → Run job ≡ simple_admission e c.disk
+    → disk_of job ≡ 0 → IsIdle c
     → Simulates c (Submit 1 number e) replies.Held [] (record { disk = c.disk; held = Some (record { queue = 1; number = number; cid = e.cid; job = job }) })
 unfolding reply_of bytes_of changed
 does_held c number e job h first idle t st =
@@ -68,7 +70,8 @@ does_held c number e job h first idle t st =
           (record { path = st.path; settings = st.settings; disks = st.disks; bindings = st.bindings; held = refl });
     }
 
-pub does_control : (c : Kept) (number : ℕ) (e : Sqe) (payload : List ℕ) → Simulates c (Control 1 number e payload) (reply_at e.cid 0x8002) [] c
+pub does_control : (c : Kept) (number : ℕ) (e : Sqe) (payload : List ℕ)
+    → Simulates c (Control 1 number e payload) (reply_at e.cid 0x8002) [] c
 unfolding reply_of bytes_of changed
 does_control c number e payload t st = record {
   lawful = refl;
@@ -80,7 +83,8 @@ does_control c number e payload t st = record {
 eqb-same : (n : ℕ) → eqb n n ≡ true
 eqb-same n = grind arith
 
-held-is : (c : Kept) (t : Target) (h : Command) → c.held ≡ Some h → StandsFor c t → t.held ≡ (record { queue = h.queue; number = h.number; cid = h.cid; job = h.job; life = 0 }) ∷ []
+held-is : (c : Kept) (t : Target) (h : Command) → c.held ≡ Some h → StandsFor c t
+    → t.held ≡ (record { queue = h.queue; number = h.number; cid = h.cid; job = h.job; life = 0 }) ∷ []
 held-is c t h e st = rw st.held (rw e refl)
 
 does_job : (c : Kept) (cid number : ℕ) (job : Job) (payload : List ℕ) → disk_of job ≡ 0
@@ -101,10 +105,12 @@ does_job c cid number job payload first e t st =
 held_queue : (h : Command) (queue number : ℕ) → holds (Some h) queue number ≡ true → h.queue ≡ queue
 held_queue h queue number is = grind arith
 
-held_number : (h : Command) (queue number : ℕ) → holds (Some h) queue number ≡ true → h.number ≡ number
+held_number : (h : Command) (queue number : ℕ) → holds (Some h) queue number ≡ true
+    → h.number ≡ number
 held_number h queue number is = grind arith
 
-pub executes : (c : Kept) (queue number : ℕ) (payload : List ℕ) (h : Command) → c.held ≡ Some h → holds c.held queue number ≡ true → HoldsFitting c.held c.disk → queue ≡ 1
+pub executes : (c : Kept) (queue number : ℕ) (payload : List ℕ) (h : Command) → c.held ≡ Some h
+    → holds c.held queue number ≡ true → HoldsFitting c.held c.disk → queue ≡ 1
     → Simulates c (Execute queue number payload) (reply_at h.cid 0) (held_bytes c) (record { disk = blocks_after c.disk h.job payload; held = None })
 executes c queue number payload h e is fitting one =
     let same : holds (Some h) queue number ≡ true = subst (λ (o : Option Command). holds o queue number ≡ true) e is in
@@ -117,32 +123,17 @@ executes c queue number payload h e is fitting one =
     subst (λ (bs : List ℕ). Simulates c (Execute queue number payload) (reply_at h.cid 0) bs (record { disk = blocks_after c.disk h.job payload; held = None })) bytes
     (subst (λ (q : ℕ). Simulates c (Execute q number payload) (reply_at h.cid 0) (bytes_read c.disk h.job) (record { disk = blocks_after c.disk h.job payload; held = None })) (sym one) (does_job c h.cid number h.job payload first b))
 
--- data as long as the job asks
-pub data_fits : (job : Job) (shift len : ℕ) → taken_len job shift ≡ len → HasData job shift len
-data_fits (Read disk lba count) shift len is = tt
-data_fits (Write disk lba count) shift len is = sym is
-data_fits (Zero disk lba count) shift len is = tt
-data_fits (Flush disk) shift len is = tt
-
--- what an admitted job asks is what its entry names
-pub holding : (d : Blocks) (e : Sqe) (queue number cid : ℕ) (job : Job) → IsJobOf e (simple_ns d) job
-    → IsHolding (record { disk = d; held = Some (record { queue = queue; number = number; cid = cid; job = job }) }) queue number (payload_len e) (host_len e)
-holding d e queue number cid job is = record {
-  is_held = rw (eqb-same queue, eqb-same number) refl;
-  has_data = data_fits job d.shift (payload_len e) is.taken;
-  is_given = is.given;
-  short = subst (λ (n : ℕ). n ≤ MAX_TRANSFER) is.given is.fits.given;
-}
-
 -- the same of a target that is seen as k and has the parts of c
-pub holds_at : (c k : Kept) (number : ℕ) (e : Sqe) (job : Job) → c ≡ k → Run job ≡ simple_admission e c.disk → disk_of job ≡ 0 → IsIdle k
+pub holds_at : (c k : Kept) (number : ℕ) (e : Sqe) (job : Job) → c ≡ k
+    → Run job ≡ simple_admission e c.disk → disk_of job ≡ 0 → IsIdle k
     → Simulates k (Submit 1 number e) replies.Held [] (record { disk = c.disk; held = Some (record { queue = 1; number = number; cid = e.cid; job = job }) })
 holds_at c k number e job same admitted first idle =
     let new : Kept = record { disk = c.disk; held = Some (record { queue = 1; number = number; cid = e.cid; job = job }) } in
     let none : IsIdle c = ap (λ (x : Kept). x.held) same ∙ idle in
     subst (λ (x : Kept). Simulates x (Submit 1 number e) replies.Held [] new) same (does_held c number e job admitted first none)
 
-pub executes_at : (c k : Kept) (queue number : ℕ) (payload : List ℕ) (h : Command) → c ≡ k → c.held ≡ Some h → holds k.held queue number ≡ true → HoldsFitting c.held c.disk → queue ≡ 1
+pub executes_at : (c k : Kept) (queue number : ℕ) (payload : List ℕ) (h : Command) → c ≡ k
+    → c.held ≡ Some h → holds k.held queue number ≡ true → HoldsFitting c.held c.disk → queue ≡ 1
     → Simulates k (Execute queue number payload) (reply_at h.cid 0) (held_bytes k) (record { disk = blocks_after c.disk h.job payload; held = None })
 executes_at c k queue number payload h same e is fitting one =
     let new : Kept = record { disk = blocks_after c.disk h.job payload; held = None } in

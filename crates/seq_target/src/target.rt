@@ -122,6 +122,7 @@ impl Target {
 
     /// Executes the command that is held, with its capsule's data. A Read's bytes are appended to `to`, which has room for
     /// them. Takes no memory.
+    #[inline(always)]
     pub fn execute(&mut self, queue: u32, number: u32, payload: &[u8], to: &mut Buffer) -> Reply
         requires queue { queue ≡ 1 }
         requires held { IsTrue (holds self.old.held queue number) }

@@ -9,7 +9,7 @@ use Rattle.byteorder.specs.Numbers.{little_from-cons}
 use Rattle.sqe_cqe.specs.Fields.{Field, field, spelled, spelled_fields, StandIn, IsGapless}
 use Rattle.sqe_cqe.specs.declared.sqe.Sqe.{Sqe}
 use Rattle.sqe_cqe.specs.declared.cqe.Cqe.{Cqe}
-use Rattle.sqe_cqe.specs.Sqe.{sqe_of, sqe_bytes, sqe_fields, front_bytes_of, dword_bytes_of}
+use Rattle.sqe_cqe.specs.Sqe.{sqe_of, sqe_bytes, sqe_fields}
 use Rattle.sqe_cqe.specs.Cqe.{cqe_of, cqe_bytes, cqe_fields}
 
 -- each is a byte
@@ -79,7 +79,7 @@ unfolding sqe_of
 sqe-stands bytes = (refl, (refl, (refl, (refl, (refl, (refl, (refl, (refl, (refl, (refl, (refl, (refl, (refl, (refl, (refl, (refl, (refl, (refl, (refl, tt)))))))))))))))))))
 
 sqe_bytes-fields : (e : Sqe) → sqe_bytes e ≡ spelled_fields (sqe_fields e)
-unfolding front_bytes_of dword_bytes_of
+unfolding sqe_bytes
 sqe_bytes-fields e = refl
 
 -- fields of all of the bytes, written again

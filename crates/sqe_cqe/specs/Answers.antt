@@ -1,6 +1,7 @@
 -- What a configuration answers to the code of commands, by positions.
 use Rattle.std.specs.Prelude.{◌≡◌, ℕ, Bool, ◌≤◌, ◌*◌, ◌^◌}
 use Rattle.std.proofs.Props.{props}
+use Rattle.mem_bdev.specs.declared.limits.TheConstants.{MAX_DISK_BYTES}
 use Rattle.sqe_cqe.specs.declared.rows.Seen.{Seen}
 use Rattle.sqe_cqe.specs.declared.rows.Seen.TheVariants.{NotConfigured, Off, On}
 use Rattle.sqe_cqe.specs.declared.rows.NsRow.{NsRow}
@@ -29,10 +30,10 @@ pub record Answers : Type 0 where
   pub marks : ℕ → ℕ → ℕ
   pub group_count : ℕ → ℕ → ℕ → ℕ
 
--- a disk of at most 16 MiB in blocks of at most 4,096 bytes, and a group up to 128
+-- a disk of at most `MAX_DISK_BYTES` in blocks of at most 4,096 bytes, and a group up to 128
 pub record IsRow (row : NsRow) : Type 0 where
   pub block : row.shift ≤ 12
-  pub disk : row.blocks * 2 ^ row.shift ≤ 16777216
+  pub disk : row.blocks * 2 ^ row.shift ≤ MAX_DISK_BYTES
   pub group : row.group ≤ 128
 
 abbrev pub HasShape : Seen → Type 0

@@ -29,9 +29,8 @@ simple_ctrl = record {
   subnqn = filled 256 0 (codes "nqn.2014-08.org.nvmexpress:simple");
   serial = filled 20 32 (codes "00000000000000000001");
   model_name = filled 40 32 (codes "Linux");
-  kato = 0;
 }
 
--- it is enabled and ready, its QID 1 is connected, and no host is named
+-- it is enabled and ready, its QID 1 is connected, and its host's name is the empty one
 unfoldable pub simple_rows : List ControllerRow
 simple_rows = (record { ctrl = simple_ctrl; host = filled 256 0 []; cc = 0x00460001; csts = 1; qids = 1 }) ∷ []

@@ -1,14 +1,14 @@
 -- Submission entries by their table of fields.
-use Rattle.std.specs.Prelude.{ℕ, List, [], ◌∷◌, ◌++◌, slice_index, ◌%◌, ◌==◌, if◌then◌else◌}
+use Rattle.std.specs.Prelude.{ℕ, List, [], ◌∷◌, slice_index, ◌%◌, ◌==◌, if◌then◌else◌}
 use Rattle.sqe_cqe.specs.Fields.{Field, row, field, spelled_fields}
 use Rattle.sqe_cqe.specs.declared.sqe.Sqe.{Sqe}
 use Rattle.sqe_cqe.specs.declared.way.Direction.{Direction}
 use Rattle.sqe_cqe.specs.declared.way.Direction.TheVariants.{Nothing, ToController, ToHost, Both}
 
--- the fields before the command dwords: opcode, flags, command identifier, NSID, dwords 2 and 3, metadata pointer,
--- SGL address, SGL length, and the other bytes of the SGL descriptor one by one
-abbrev pub front_fields : Sqe → List Field
-front_fields e =
+-- the table of a submission entry: opcode, flags, command identifier, NSID, dwords 2 and 3, metadata pointer, SGL address,
+-- SGL length, the other bytes of the SGL descriptor one by one, command dwords 10 to 15
+abbrev pub sqe_fields : Sqe → List Field
+sqe_fields e =
     row 0 1 e.opcode
     ∷ row 1 1 e.flags
     ∷ row 2 2 e.cid
@@ -22,12 +22,7 @@ front_fields e =
     ∷ row 37 1 (slice_index e.sgl_rest 1)
     ∷ row 38 1 (slice_index e.sgl_rest 2)
     ∷ row 39 1 (slice_index e.sgl_rest 3)
-    ∷ []
-
--- the command dwords 10 to 15
-abbrev pub dword_fields : Sqe → List Field
-dword_fields e =
-    row 40 4 e.cdw10
+    ∷ row 40 4 e.cdw10
     ∷ row 44 4 e.cdw11
     ∷ row 48 4 e.cdw12
     ∷ row 52 4 e.cdw13
@@ -35,19 +30,9 @@ dword_fields e =
     ∷ row 60 4 e.cdw15
     ∷ []
 
--- the table of a submission entry
-abbrev pub sqe_fields : Sqe → List Field
-sqe_fields e = front_fields e ++ dword_fields e
-
-unfoldable pub front_bytes_of : Sqe → List ℕ
-front_bytes_of e = spelled_fields (front_fields e)
-
-unfoldable pub dword_bytes_of : Sqe → List ℕ
-dword_bytes_of e = spelled_fields (dword_fields e)
-
 -- the 64 bytes of an entry
-abbrev pub sqe_bytes : Sqe → List ℕ
-sqe_bytes e = front_bytes_of e ++ dword_bytes_of e
+unfoldable pub sqe_bytes : Sqe → List ℕ
+sqe_bytes e = spelled_fields (sqe_fields e)
 
 -- the entry in 64 bytes
 unfoldable pub sqe_of : List ℕ → Sqe

@@ -3,7 +3,7 @@
 /// Opcode of a fabrics command (NVMe over Fabrics 1.1, 3).
 pub const FABRICS: u8 = 0x7f;
 
-/// Opcode of Flush (NVM Command Set 1.0, 3.2.3).
+/// Opcode of Flush (NVMe Base 2.0, Flush command).
 pub const FLUSH: u8 = 0x00;
 
 /// Opcode of Write (NVM Command Set 1.0, 3.2.6).
@@ -12,7 +12,7 @@ pub const WRITE: u8 = 0x01;
 /// Opcode of Read (NVM Command Set 1.0, 3.2.4).
 pub const READ: u8 = 0x02;
 
-/// Opcode of Write Zeroes (NVM Command Set 1.0, 3.2.7).
+/// Opcode of Write Zeroes (NVM Command Set 1.0, 3.2.8).
 pub const WRITE_ZEROES: u8 = 0x08;
 
 /// Flags of a command whose data are told by an SGL, and that isn't fused: PSDT 01b, FUSE 00b.

@@ -34,15 +34,14 @@ pub struct Ctrl {
     pub serial: [u8; 20],
     /// Model number (MN).
     pub model_name: [u8; 40],
-    /// Keep alive timeout in milliseconds (KATO).
-    pub kato: u32,
 }
 
 /// A controller with what Connect and properties keep of it.
 #[derive(Clone, Copy, Debug, PartialEq, Eq)]
 pub struct ControllerRow {
     pub ctrl: Ctrl,
-    /// The NQN of its host, filled up with zero bytes.
+    /// The NQN of its host, filled up with zero bytes: all zeros are the empty name, and 256 bytes without a zero byte
+    /// name nothing.
     pub host: [u8; 256],
     /// Controller configuration (CC).
     pub cc: u32,
@@ -83,8 +82,8 @@ fn put_text(field: &mut [u8], text: &[u8], fill: u8)
     field[..text.len()].copy_from_slice(text);
 }
 
-// A field of 256 bytes that names nothing.
-fn no_name() -> [u8; 256]
+// Makes a field of 256 bytes with the empty name.
+fn empty_name() -> [u8; 256]
     ensures { result ≡ filled 256 0 [] }
 {
     let mut field = [0; 256];
@@ -114,7 +113,6 @@ fn simple_controller() -> Ctrl
         subnqn,
         serial,
         model_name,
-        kato: 0,
     }
 }
 
@@ -128,7 +126,7 @@ impl Controllers {
     }
 
     /// The one controller of a simple plan: number 1, at subsystem and port 0, enabled and ready, with QID 1 connected,
-    /// and with no host's name, since no Connect named one.
+    /// and with the empty name as its host's, since no Connect named one.
     #[tactic(auto, unfolding(crate::specs::Ready::simple_rows))]
     pub fn simple(alloc: Global) -> Result<Self, AllocError>
         ensures { IfOk result (λ c. c ≡ simple_rows) }
@@ -136,7 +134,7 @@ impl Controllers {
         let mut rows = Vec::with_capacity(alloc, 31)?;
         rows.push(ControllerRow {
             ctrl: simple_controller(),
-            host: no_name(),
+            host: empty_name(),
             cc: ENABLED,
             csts: 1,
             qids: 1,

@@ -29,7 +29,8 @@ pub struct OneRow {
 /// A look at a configuration with one namespace. It loads nothing that is counted.
 #[derive(Drop)]
 pub struct OneLook<'a> {
-    row: &'a OneRow,
+    /// The configuration that is looked at.
+    pub row: &'a OneRow,
     ghost shape: { HasShape row.now.seen } by { shape-once row.now.seen },
 }
 

@@ -1,6 +1,6 @@
 ghost use Rattle.std.specs.Prelude.{◌≡◌, ◌≤◌, ◌<◌, ◌+◌, ◌^◌};
 ghost use Rattle.sqe_cqe.specs.Fields.{field, StandIn};
-ghost use Rattle.sqe_cqe.specs.Sqe.{sqe_of, sqe_fields, front_bytes_of, dword_bytes_of, sqe_bytes, direction_of, fctype_of, payload_len};
+ghost use Rattle.sqe_cqe.specs.Sqe.{sqe_of, sqe_fields, sqe_bytes, direction_of, fctype_of, payload_len};
 
 use crate::codes::FABRICS;
 use crate::way::Direction;
@@ -93,34 +93,23 @@ pub fn read_sqe(bytes: &[u8; 64]) -> Sqe
     }
 }
 
-// The bytes before the command dwords.
-#[tactic(auto, unfolding(crate::specs::Sqe::front_bytes_of))]
-fn front_bytes(e: &Sqe) -> [u8; 40]
-    ensures { result ≡ front_bytes_of e.now }
+/// Writes an entry: its fields one after another, each little-endian.
+#[tactic(auto, unfolding(crate::specs::Sqe::sqe_bytes))]
+pub fn write_sqe(e: &Sqe) -> [u8; 64]
+    ensures { result ≡ sqe_bytes e.now }
 {
     let [opcode] = e.opcode.to_le_bytes();
     let [flags] = e.flags.to_le_bytes();
-    let [c0, c1] = e.cid.to_le_bytes();
+    let [i0, i1] = e.cid.to_le_bytes();
     let [n0, n1, n2, n3] = e.nsid.to_le_bytes();
     let [w0, w1, w2, w3] = e.cdw2.to_le_bytes();
     let [x0, x1, x2, x3] = e.cdw3.to_le_bytes();
     let [m0, m1, m2, m3, m4, m5, m6, m7] = e.mptr.to_le_bytes();
-    let [a0, a1, a2, a3, a4, a5, a6, a7] = e.sgl_addr.to_le_bytes();
+    let [s0, s1, s2, s3, s4, s5, s6, s7] = e.sgl_addr.to_le_bytes();
     let [l0, l1, l2, l3] = e.sgl_len.to_le_bytes();
     let [r0, r1, r2, r3] = e.sgl_rest;
-    let ([d0], [d1]) = (r0.to_le_bytes(), r1.to_le_bytes());
-    let ([d2], [d3]) = (r2.to_le_bytes(), r3.to_le_bytes());
-    [
-        opcode, flags, c0, c1, n0, n1, n2, n3, w0, w1, w2, w3, x0, x1, x2, x3, m0, m1, m2, m3, m4,
-        m5, m6, m7, a0, a1, a2, a3, a4, a5, a6, a7, l0, l1, l2, l3, d0, d1, d2, d3,
-    ]
-}
-
-// The bytes of the command dwords 10 to 15.
-#[tactic(auto, unfolding(crate::specs::Sqe::dword_bytes_of))]
-fn dword_bytes(e: &Sqe) -> [u8; 24]
-    ensures { result ≡ dword_bytes_of e.now }
-{
+    let ([t0], [t1]) = (r0.to_le_bytes(), r1.to_le_bytes());
+    let ([t2], [t3]) = (r2.to_le_bytes(), r3.to_le_bytes());
     let [a0, a1, a2, a3] = e.cdw10.to_le_bytes();
     let [b0, b1, b2, b3] = e.cdw11.to_le_bytes();
     let [c0, c1, c2, c3] = e.cdw12.to_le_bytes();
@@ -128,19 +117,10 @@ fn dword_bytes(e: &Sqe) -> [u8; 24]
     let [e0, e1, e2, e3] = e.cdw14.to_le_bytes();
     let [f0, f1, f2, f3] = e.cdw15.to_le_bytes();
     [
-        a0, a1, a2, a3, b0, b1, b2, b3, c0, c1, c2, c3, d0, d1, d2, d3, e0, e1, e2, e3, f0, f1, f2,
-        f3,
+        opcode, flags, i0, i1, n0, n1, n2, n3, w0, w1, w2, w3, x0, x1, x2, x3, m0, m1, m2, m3, m4,
+        m5, m6, m7, s0, s1, s2, s3, s4, s5, s6, s7, l0, l1, l2, l3, t0, t1, t2, t3, a0, a1, a2, a3,
+        b0, b1, b2, b3, c0, c1, c2, c3, d0, d1, d2, d3, e0, e1, e2, e3, f0, f1, f2, f3,
     ]
-}
-
-/// Writes an entry: its fields one after another, each little-endian.
-pub fn write_sqe(e: &Sqe) -> [u8; 64]
-    ensures { result ≡ sqe_bytes e.now }
-{
-    let mut bytes = [0; 64];
-    bytes[..40].copy_from_slice(&front_bytes(e));
-    bytes[40..].copy_from_slice(&dword_bytes(e));
-    bytes
 }
 
 /// FCTYPE, the type of a fabrics command (opcode 7Fh): the low byte of its NSID (NVMe over Fabrics 1.1, 3).

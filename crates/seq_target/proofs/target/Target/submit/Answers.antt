@@ -3,7 +3,7 @@ use Rattle.mem_bdev.specs.Blocks.{Blocks}
 use Rattle.io_commands.specs.declared.jobs.Admit.TheVariants.{Refused}
 use Rattle.seq_target.specs.Kept.{Kept}
 use Rattle.seq_target.specs.Stands.{simple_admission}
-use Rattle.seq_target.proofs.OneDisk.{does_refused, holds_at, holding}
+use Rattle.seq_target.proofs.OneDisk.{does_refused, holds_at}
 use Rattle.seq_target.proofs.target.Target.submit.Goals as goal
 
 pub returns-in-Refused-clause-does : goal.returns-in-Refused-clause-does
