@@ -32,11 +32,11 @@ summary-is plan d file o h p =
     let parts : List Placed → List ℕ = λ list. summary_of (length h) (submits_in list) (executes_in list) (refusals_in list) (bytes_taken list) (bytes_given list) in
     ap parts (all-placed plan d file h) ∙ rw (n, p.submitted, p.executed, p.refused, p.taken, p.given) refl
 
-pub plan_served : (told : Told) (plan : Plan) (d : DiskLine) (q : QueueLine) (bytes text : List ℕ) (file : List Capsule) (c0 c1 : Kept) (o0 o1 : Output)
+pub plan_served : (told : Told) (d : DiskLine) (q : QueueLine) (bytes text : List ℕ) (file : List Capsule) (c0 c1 : Kept) (o0 o1 : Output)
     → HoldsOf told q.capsules bytes → AreCapsules bytes file → capsules_of_file bytes ≡ Ok file → StandsFor c0 (simple_start d) → Prints o0 [] → Makes (ServesFile 1 0 file) c0 o0 c1 o1
     → text ≡ summary_of o1.places o1.submitted o1.executed o1.refused o1.taken o1.given
-    → ServedPlan told plan d q o1.records.bytes text
-plan_served told plan d q bytes text file c0 c1 o0 o1 held read exact st prints makes is =
+    → ServedPlan told d q o1.records.bytes text
+plan_served told d q bytes text file c0 c1 o0 o1 held read exact st prints makes is =
     let g = makes (simple_start d) [] st prints in
     record {
       file = file;
@@ -45,7 +45,7 @@ plan_served told plan d q bytes text file c0 c1 o0 o1 held read exact st prints 
       served = g.served;
       legal = g.legal;
       records_are = g.prints.records;
-      text_is = is ∙ sym (summary-is plan d file o1 g.group g.prints);
+      text_is = λ plan. is ∙ sym (summary-is plan d file o1 g.group g.prints);
     }
 
 ordered_alone : (plan : Plan) (d : DiskLine) (file : List Capsule) (h : List Entry) → IsOrdered (alone plan d file h)
@@ -55,7 +55,7 @@ ordered_alone plan d file h = record {
 }
 
 pub ran : (told_before told_after : Told) (taken_before taken_after : Option (List ℕ)) (name : List ℕ) (plan : Plan) (d : DiskLine) (q : QueueLine) (records text : List ℕ)
-    → ReadsPlan told_before name plan → IsSimpleOf plan d q → ServedPlan told_before plan d q records text
+    → ReadsPlan told_before name plan → IsSimpleOf plan d q → ServedPlan told_before d q records text
     → HoldsNow told_before told_after q.responses records → KeptBut told_before told_after (q ∷ []) → Took taken_before taken_after text
     → Ran told_before told_after taken_before taken_after name
 ran told_before told_after taken_before taken_after name plan d q records text reads simple served written kept put =
@@ -71,12 +71,12 @@ ran told_before told_after taken_before taken_after name plan d q records text r
       legal = served.legal;
       written = rw simple.queues (subst (λ (x : List ℕ). HoldsNow told_before told_after q.responses x) served.records_are written, tt);
       kept = rw simple.queues kept;
-      put = subst (λ (x : List ℕ). Took taken_before taken_after x) served.text_is put;
+      put = subst (λ (x : List ℕ). Took taken_before taken_after x) (served.text_is plan) put;
     }
 
 -- the same where the sink did not take the summary
 pub unsaid : (before after : Outside) (name : List ℕ) (plan : Plan) (d : DiskLine) (q : QueueLine) (records text : List ℕ)
-    → ReadsPlan before.files.told name plan → IsSimpleOf plan d q → ServedPlan before.files.told plan d q records text
+    → ReadsPlan before.files.told name plan → IsSimpleOf plan d q → ServedPlan before.files.told d q records text
     → HoldsNow before.files.told after.files.told q.responses records → KeptBut before.files.told after.files.told (q ∷ []) → FailedPut before.sink after.sink text
     → Unsaid before after name
 unsaid before after name plan d q records text reads simple served written kept failed =
@@ -92,5 +92,5 @@ unsaid before after name plan d q records text reads simple served written kept 
       legal = served.legal;
       written = rw simple.queues (subst (λ (x : List ℕ). HoldsNow before.files.told after.files.told q.responses x) served.records_are written, tt);
       kept = rw simple.queues kept;
-      failed = subst (λ (x : List ℕ). FailedPut before.sink after.sink x) served.text_is failed;
+      failed = subst (λ (x : List ℕ). FailedPut before.sink after.sink x) (served.text_is plan) failed;
     }

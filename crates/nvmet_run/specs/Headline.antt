@@ -137,12 +137,13 @@ alone plan disk file history = record {
   history = history;
 }
 
--- a queue's file was read and served from the start of a simple plan, and these are its records and its summary
-pub record ServedPlan (told : Told) (plan : Plan) (disk : DiskLine) (queue : QueueLine) (records text : List ℕ) : Type 0 where
+-- a queue's file was read and served from the start of a simple plan with this disk, and these are its records and the
+-- summary of each such plan
+pub record ServedPlan (told : Told) (disk : DiskLine) (queue : QueueLine) (records text : List ℕ) : Type 0 where
   pub file : List Capsule
   pub read : ReadsCapsules told queue.capsules file
   pub history : List Entry
   pub served : ServesFile 1 0 file (placed_from 0 history)
   pub legal : IsLegal (simple_start disk) history
   pub records_are : records ≡ responses (placed_from 0 history)
-  pub text_is : text ≡ summary (alone plan disk file history)
+  pub text_is : (plan : Plan) → text ≡ summary (alone plan disk file history)

@@ -24,7 +24,7 @@ pub const MAX_PLAN_BYTES: usize = 65_536;
 pub const MAX_QUEUE_BYTES: usize = 67_108_864;
 
 // Reads a file of at most `limit` bytes whole.
-fn content_of<F: Files>(
+fn read_content<F: Files>(
     alloc: Global,
     name: &str,
     limit: usize,
@@ -114,7 +114,7 @@ fn line_count(bytes: &[u8]) -> u32
 
 // The simple plan in these bytes. Another plan is refused on the line after its last, since no other is run yet.
 #[tactic(auto, unfolding(crate::specs::Reading::simple_plan_in))]
-fn plan_of(alloc: Global, bytes: &[u8]) -> Result<Plan, Fault>
+fn parse_plan(alloc: Global, bytes: &[u8]) -> Result<Plan, Fault>
     requires { length bytes.now ≤ MAX_PLAN_BYTES }
     ensures spelled { IfOk result (λ plan. IsPlan bytes.now plan) }
     ensures exact { Gives (λ plan. plan) result (simple_plan_in bytes.now) }
@@ -130,15 +130,15 @@ fn plan_of(alloc: Global, bytes: &[u8]) -> Result<Plan, Fault>
 }
 
 /// Reads the plan of this name.
-pub fn plan_in<F: Files>(alloc: Global, name: &str, files: &mut F) -> Result<Plan, Fault>
+pub fn read_plan_file<F: Files>(alloc: Global, name: &str, files: &mut F) -> Result<Plan, Fault>
     ensures read { IfOk result (λ plan. ReadsPlan (told_by (F.tells files.old) (F.told files.old)) name.now plan) }
     ensures runnable { IfOk result (λ plan. IsRunnable plan) }
     ensures refused { IfErr result (λ f. FileRefused PLAN name.now plan_of_file (files_view (told_by (F.tells files.old) (F.told files.old)) (F.faults files.old) (F.last files.old)) (files_view (told_by (F.tells files.new) (F.told files.new)) (F.faults files.new) (F.last files.new)) f) }
     ensures same { (told_by (F.tells files.new) (F.told files.new)) ≡ (told_by (F.tells files.old) (F.told files.old)) }
     ensures later { F.faults files.old ≤ F.faults files.new }
 {
-    match content_of(alloc, name, MAX_PLAN_BYTES, PLAN, files) {
-        Ok(bytes) => plan_of(alloc, &bytes),
+    match read_content(alloc, name, MAX_PLAN_BYTES, PLAN, files) {
+        Ok(bytes) => parse_plan(alloc, &bytes),
         Err(fault) => Err(fault),
     }
 }
@@ -151,7 +151,7 @@ pub struct CapsuleFile {
 }
 
 // The capsules in these bytes.
-fn capsules_in(alloc: Global, bytes: &[u8]) -> Result<Vec<Capsule>, Fault>
+fn parse_capsules(alloc: Global, bytes: &[u8]) -> Result<Vec<Capsule>, Fault>
     ensures spelled { IfOk result (λ v. AreCapsules bytes.now (capsules_in bytes.now v.items)) }
     ensures whole { IfOk result (λ v. All (IsWholeIn bytes.now) v.items) }
     ensures few { IfOk result (λ v. length v.items ≤ MAX_CAPSULES) }
@@ -164,7 +164,7 @@ fn capsules_in(alloc: Global, bytes: &[u8]) -> Result<Vec<Capsule>, Fault>
 }
 
 /// Reads the capsule file of queue 1.
-pub fn capsules_of<F: Files>(
+pub fn read_capsule_file<F: Files>(
     alloc: Global,
     name: &Name,
     files: &mut F,
@@ -180,8 +180,8 @@ pub fn capsules_of<F: Files>(
     ensures later { F.faults files.old ≤ F.faults files.new }
 {
     let name = name.as_text().unwrap();
-    match content_of(alloc, name, MAX_QUEUE_BYTES, CAPSULES, files) {
-        Ok(bytes) => match capsules_in(alloc, &bytes) {
+    match read_content(alloc, name, MAX_QUEUE_BYTES, CAPSULES, files) {
+        Ok(bytes) => match parse_capsules(alloc, &bytes) {
             Ok(capsules) => Ok(CapsuleFile { bytes, capsules }),
             Err(fault) => Err(fault),
         },
@@ -190,7 +190,7 @@ pub fn capsules_of<F: Files>(
 }
 
 /// Writes the response file of queue 1.
-pub fn written<F: Files>(name: &Name, bytes: &[u8], files: &mut F) -> Result<(), Fault>
+pub fn write_responses<F: Files>(name: &Name, bytes: &[u8], files: &mut F) -> Result<(), Fault>
     requires { IsUtf8 name.now }
     ensures holds { OnOk result (HoldsNow (told_by (F.tells files.old) (F.told files.old)) (told_by (F.tells files.new) (F.told files.new)) name.now bytes.now) }
     ensures others { (other : List ℕ) → other ≢ name.now → F.told files.new other ≡ F.told files.old other }

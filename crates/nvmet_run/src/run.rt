@@ -1,4 +1,5 @@
-ghost use Rattle.std.specs.Prelude.{◌≡◌, ◌≢◌, ◌≤◌, ◌⊎◌, Some, None, IfOk, IfErr, OnOk, IsUtf8, string_bytes};
+ghost use Rattle.std.specs.Prelude.{◌≡◌, ◌≢◌, ◌≤◌, ◌⊎◌, ℕ, List, Some, None, IfOk, IfErr, OnOk, IsUtf8, string_bytes};
+ghost use Rattle.mem_bdev.specs.Blocks.{IsShape};
 ghost use Rattle.plan_files.specs.Outside.{Rose};
 ghost use Rattle.nvmet_run.specs.Codes.{status_of};
 ghost use Rattle.nvmet_run.specs.Headline.{told_by, ReadsPlan, ServedPlan, IsSimpleOf, IsRunnable, Ran};
@@ -8,7 +9,7 @@ ghost use Rattle.nvmet_run.specs.Refusals.{FileRefused, ServingRefused, Refusal,
 ghost use Rattle.nvmet_run.specs.Texts.{line_of};
 ghost use Rattle.nvmet_run.specs.declared.status.Fault.{Fault};
 
-use crate::files::{capsules_of, plan_in, put, written};
+use crate::files::{put, read_capsule_file, read_plan_file, write_responses};
 use crate::output::Output;
 use crate::report::put_line;
 use crate::serve::serve_file;
@@ -31,20 +32,18 @@ struct Printed {
 // Reads the capsules of a simple plan and serves them.
 fn serve_plan<F: Files>(
     alloc: Global,
-    plan: &Plan,
     disk: &DiskLine,
     queue: &QueueLine,
     files: &mut F,
 ) -> Result<Printed, Fault>
-    requires simple { IsSimpleOf plan.now disk.now queue.now }
+    requires shape { IsShape disk.now.shift disk.now.blocks }
     requires text { IsUtf8 queue.now.capsules }
-    ensures served { IfOk result (λ m. ServedPlan (told_by (F.tells files.old) (F.told files.old)) plan.now disk.now queue.now m.records.bytes (string_bytes m.text)) }
+    ensures served { IfOk result (λ m. ServedPlan (told_by (F.tells files.old) (F.told files.old)) disk.now queue.now m.records.bytes (string_bytes m.text)) }
     ensures refused { IfErr result (λ f. FileRefused CAPSULES queue.now.capsules capsules_of_file (files_view (told_by (F.tells files.old) (F.told files.old)) (F.faults files.old) (F.last files.old)) (files_view (told_by (F.tells files.new) (F.told files.new)) (F.faults files.new) (F.last files.new)) f) }
     ensures same { (told_by (F.tells files.new) (F.told files.new)) ≡ (told_by (F.tells files.old) (F.told files.old)) }
     ensures later { F.faults files.old ≤ F.faults files.new }
 {
-    let _plan = plan;
-    let file = capsules_of(alloc, &queue.capsules, files)?;
+    let file = read_capsule_file(alloc, &queue.capsules, files)?;
     let mut target = Target::simple(alloc, disk)?;
     let mut output = Output::new(alloc, room(&file.capsules) as usize)?;
     serve_file(&mut target, 1, &file.capsules, &file.bytes, &mut output);
@@ -56,7 +55,7 @@ fn serve_plan<F: Files>(
 }
 
 // The disk and the queue of a simple plan.
-fn parts(plan: &Plan) -> (&DiskLine, &QueueLine)
+fn split_plan(plan: &Plan) -> (&DiskLine, &QueueLine)
     requires { IsRunnable plan.now }
     ensures simple { IsSimpleOf plan.now result.0.now result.1.now }
     ensures capsules { IsUtf8 result.1.now.capsules }
@@ -70,20 +69,17 @@ fn parts(plan: &Plan) -> (&DiskLine, &QueueLine)
 // Serves a plan that was read, writes its response file and puts its summary.
 fn run_read<F: Files, K: Sink>(
     alloc: Global,
-    name: &str,
     plan: &Plan,
     files: &mut F,
     out: &mut K,
 ) -> Result<(), Fault>
-    requires read { ReadsPlan (told_by (F.tells files.old) (F.told files.old)) name.now plan.now }
-    requires runnable { IsRunnable plan.now }
-    ensures ran { OnOk result (Ran (told_by (F.tells files.old) (F.told files.old)) (told_by (F.tells files.new) (F.told files.new)) (K.taken out.old) (K.taken out.new) name.now) }
-    ensures refused { IfErr result (λ f. ServingRefused (outside (told_by (F.tells files.old) (F.told files.old)) (F.faults files.old) (F.last files.old) (K.taken out.old) (K.faults out.old)) (outside (told_by (F.tells files.new) (F.told files.new)) (F.faults files.new) (F.last files.new) (K.taken out.new) (K.faults out.new)) name.now plan.now.queues f) }
+    requires { IsRunnable plan.now }
+    ensures ran { OnOk result ((name : List ℕ) → ReadsPlan (told_by (F.tells files.old) (F.told files.old)) name plan.now → Ran (told_by (F.tells files.old) (F.told files.old)) (told_by (F.tells files.new) (F.told files.new)) (K.taken out.old) (K.taken out.new) name) }
+    ensures refused { IfErr result (λ f. (name : List ℕ) → ReadsPlan (told_by (F.tells files.old) (F.told files.old)) name plan.now → ServingRefused (outside (told_by (F.tells files.old) (F.told files.old)) (F.faults files.old) (F.last files.old) (K.taken out.old) (K.faults out.old)) (outside (told_by (F.tells files.new) (F.told files.new)) (F.faults files.new) (F.last files.new) (K.taken out.new) (K.faults out.new)) name plan.now.queues f) }
 {
-    let _name = name;
-    let (disk, queue) = parts(plan);
-    let made = serve_plan(alloc, plan, disk, queue, files)?;
-    written(&queue.responses, made.records.bytes(), files)?;
+    let (disk, queue) = split_plan(plan);
+    let made = serve_plan(alloc, disk, queue, files)?;
+    write_responses(&queue.responses, made.records.bytes(), files)?;
     put(made.text.as_str(), out)?;
     Ok(())
 }
@@ -100,7 +96,7 @@ fn name_of<'a>(queues: &'a [QueueLine], name: &'a [u8], file: FileNo) -> &'a [u8
 }
 
 // Puts the line of a fault in the file of this name, and hands the fault on.
-fn ended<K: Sink>(file: &[u8], fault: Fault, out: &mut K) -> Fault
+fn report_fault<K: Sink>(file: &[u8], fault: Fault, out: &mut K) -> Fault
     ensures same { result ≡ fault }
     ensures said { Said (sink_view (K.taken out.old) (K.faults out.old)) (sink_view (K.taken out.new) (K.faults out.new)) (line_of file.now fault) }
 {
@@ -118,15 +114,15 @@ fn run_whole<F: Files, K: Sink>(
     ensures ran { OnOk result (Ran (told_by (F.tells files.old) (F.told files.old)) (told_by (F.tells files.new) (F.told files.new)) (K.taken out.old) (K.taken out.new) plan.now) }
     ensures refused { IfErr result (λ f. Refusal (outside (told_by (F.tells files.old) (F.told files.old)) (F.faults files.old) (F.last files.old) (K.taken out.old) (K.faults out.old)) (outside (told_by (F.tells files.new) (F.told files.new)) (F.faults files.new) (F.last files.new) (K.taken out.new) (K.faults out.new)) plan.now f) }
 {
-    let read = match plan_in(alloc, plan, files) {
+    let read = match read_plan_file(alloc, plan, files) {
         Ok(read) => read,
-        Err(fault) => return Err(ended(plan.as_bytes(), fault, out)),
+        Err(fault) => return Err(report_fault(plan.as_bytes(), fault, out)),
     };
-    match run_read(alloc, plan, &read, files, out) {
+    match run_read(alloc, &read, files, out) {
         Ok(()) => Ok(()),
         Err(fault) => {
             let file = name_of(read.queues.as_slice(), plan.as_bytes(), fault.file());
-            Err(ended(file, fault, out))
+            Err(report_fault(file, fault, out))
         }
     }
 }

@@ -28,7 +28,7 @@ pub use capsules::{
 };
 pub use faults::KeptCall;
 pub use host::{HostFiles, HostSink};
-pub use items::{DiskLines, Item, Plan, QueueLine, QueueLines};
+pub use items::{Item, Plan, QueueLine};
 pub use limits::What;
 pub use line_items::{MAX_NAME, is_name};
 pub use memory::{MemFiles, MemSink};

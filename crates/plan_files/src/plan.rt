@@ -11,11 +11,12 @@ ghost use Rattle.plan_files.specs.declared.plan.PlanError as file_error;
 ghost use Rattle.plan_files.specs.PlanReading.{Fails, Leaves, Gives, item_taken, line_taken, plan_from, plan_in};
 ghost use Rattle.plan_files.specs.declared.plan.PlanError.TheVariants.{Memory, BadLine, TooLong};
 
-use crate::items::{DiskLines, Item, Plan, QueueLine, QueueLines};
+use crate::items::{Item, Plan, QueueLine};
 use crate::limits::What;
 use crate::line_items::{first_at, line_item};
+use lists::items::Items;
 use mem_bdev::{MAX_DISK_BYTES, Name};
-use std::alloc::{AllocError, AllocFailed, Global};
+use std::alloc::{AllocError, Global};
 use thiserror::Error;
 
 /// How many disks a plan has at most.
@@ -48,14 +49,6 @@ impl From<AllocError> for PlanError {
     ghost from_gives = { λ _ e. e ≡ Memory };
 
     fn from(_e: AllocError) -> PlanError {
-        PlanError::Memory
-    }
-}
-
-impl<T: Drop> From<AllocFailed<T>> for PlanError {
-    ghost from_gives = { λ _ e. e ≡ Memory };
-
-    fn from(_e: AllocFailed<T>) -> PlanError {
         PlanError::Memory
     }
 }
@@ -256,11 +249,11 @@ fn empty_plan(alloc: Global) -> Plan
 {
     Plan {
         simple: false,
-        disks: DiskLines::from_vec(Vec::new(alloc)),
+        disks: Items::new(alloc),
         config: None,
         script: None,
         journal: None,
-        queues: QueueLines::from_vec(Vec::new(alloc)),
+        queues: Items::new(alloc),
     }
 }
 

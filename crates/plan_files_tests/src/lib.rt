@@ -8,6 +8,8 @@ mod capsule_rows;
 #[cfg(test)]
 mod mutations;
 #[cfg(test)]
+mod outside;
+#[cfg(test)]
 mod plan_rows;
 #[cfg(test)]
 mod slow_capsules;

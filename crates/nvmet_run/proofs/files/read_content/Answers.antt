@@ -1,7 +1,7 @@
 use Rattle.std.proofs.Common.{refl}
 use Rattle.nvmet_run.specs.Headline.{told_by}
 use Rattle.nvmet_run.proofs.Refusing.{failed_call, holds_read, too_long}
-use Rattle.nvmet_run.proofs.files.content_of.Goals as goal
+use Rattle.nvmet_run.proofs.files.read_content.Goals as goal
 
 pub returns-in-Ok-clause-told : goal.returns-in-Ok-clause-told
 returns-in-Ok-clause-told g c =

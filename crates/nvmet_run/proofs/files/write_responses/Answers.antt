@@ -1,7 +1,7 @@
 use Rattle.std.proofs.Common.{refl}
 use Rattle.nvmet_run.specs.Headline.{told_by}
 use Rattle.nvmet_run.proofs.Refusing.{failed_call, kept_all}
-use Rattle.nvmet_run.proofs.files.written.Goals as goal
+use Rattle.nvmet_run.proofs.files.write_responses.Goals as goal
 
 pub returns-in-Err-Failed-clause-refused : goal.returns-in-Err-Failed-clause-refused
 returns-in-Err-Failed-clause-refused g c =
