@@ -1,8 +1,10 @@
 //! The program `nvmetd` over values: the words of its command line, the answer to them, its exit
 //! status. A program's `main` is `run_on_host` alone, over the real files and standard output.
 #![tactic(auto)]
-ghost use Rattle.std.specs.Prelude.{◌≡◌, ◌⊎◌, ◌↔◌, List, ℕ, Some, None, [], IfOk, IsErr, IsOkAnd, OnErr};
+
+ghost use Rattle.std.specs.Prelude.{◌≡◌, ◌⊎◌, ◌↔◌, List, ℕ, Some, None, [], drop, IfOk, IsErr, IsOkAnd, OnErr};
 ghost use Rattle.std.specs.Process.{exit_status};
+ghost use Rattle.std.specs.Vec.Iter.{into_iter_items};
 ghost use Rattle.nvmet_run.specs.Codes.{code_of, status_of};
 ghost use Rattle.nvmet_run.specs.Commands.{plan_named};
 ghost use Rattle.nvmet_run.specs.Headline.{Ran, told_by};
@@ -15,11 +17,10 @@ use nvmet_run::{Status, command};
 use plan_files::{Files, Gate, HostFiles, HostSink, OpenGate, Sink};
 use std::alloc::{AllocError, Global};
 use std::env::{Args, Env, args};
-use std::io;
 use std::process::ExitCode;
-use std::rt;
 use std::sync::Wait;
 use std::thread::Threads;
+use std::{io, rt};
 
 /// The exit status of a program whose command ended so: 0 to 6 in the order of the variants.
 pub fn exit_code(status: &Status) -> ExitCode
@@ -28,19 +29,29 @@ pub fn exit_code(status: &Status) -> ExitCode
     ExitCode::from(status.code())
 }
 
+// The words after the first.
+fn collect_words(alloc: Global, args: Args) -> Result<Vec<String>, AllocError>
+    ensures { IfOk result (λ v. v.items ≡ drop 1 (into_iter_items args)) }
+{
+    let mut rest = args;
+    let _name = rest.next();
+    let mut words = Vec::new(alloc);
+    while let Some(word) = rest.next() {
+        words.push(word)?;
+    }
+    Ok(words)
+}
+
 /// The words after the program's name, all of them and in their order.
 ///
 /// Words of which one is no text are no command, as no words are. An error says that there was no
 /// memory for them.
-pub fn words_after_name(
-    alloc: Global,
-    args: io::Result<Args>,
-) -> Result<Vec<String>, AllocError>
+pub fn words_after_name(alloc: Global, args: io::Result<Args>) -> Result<Vec<String>, AllocError>
     ensures words { IfOk result (λ v. v.items ≡ given_words args) }
     ensures memory { LacksMemory args → IsErr result }
 {
     match args {
-        Ok(args) => args.skip(1).collect(alloc),
+        Ok(args) => collect_words(alloc, args),
         Err(error) => {
             if error.kind() == io::ErrorKind::OutOfMemory {
                 Err(AllocError)
@@ -65,17 +76,17 @@ pub fn answer<R: Wait + Threads + Sync, F: Files, K: Sink, G: Gate + Sync>(
     ensures fine { result ≡ Status.Fine → IsOkAnd words (λ v. (plan : List ℕ)
         × (plan_named v.items ≡ Some plan)
         × Ran (told_by (F.tells files.old) (F.told files.old))
-            (told_by (F.tells files.new) (F.told files.new)) (K.taken out.old) (K.taken out.new) plan) }
+        (told_by (F.tells files.new) (F.told files.new)) (K.taken out.old) (K.taken out.new) plan) }
     // The words are no command, and there was memory for them.
     ensures usage { (result ≡ Status.Usage) ↔ IsOkAnd words (λ v. plan_named v.items ≡ None) }
     // Another status has its cause in the run of the plan that the words name.
     ensures refused { (f : Fault) → result ≡ status_of f → IsErr words ⊎ IsOkAnd words (λ v. (plan : List ℕ)
         × (plan_named v.items ≡ Some plan)
         × Refusal
-            (outside (told_by (F.tells files.old) (F.told files.old)) (F.faults files.old)
-                (F.last files.old) (K.taken out.old) (K.faults out.old))
-            (outside (told_by (F.tells files.new) (F.told files.new)) (F.faults files.new)
-                (F.last files.new) (K.taken out.new) (K.faults out.new)) plan f) }
+        (outside (told_by (F.tells files.old) (F.told files.old)) (F.faults files.old)
+        (F.last files.old) (K.taken out.old) (K.faults out.old))
+        (outside (told_by (F.tells files.new) (F.told files.new)) (F.faults files.new)
+        (F.last files.new) (K.taken out.new) (K.faults out.new)) plan f) }
     ensures memory { OnErr words (result ≡ Status.Memory) }
     ensures untouched { OnErr words
         (files_view (told_by (F.tells files.new) (F.told files.new)) (F.faults files.new) (F.last files.new)
