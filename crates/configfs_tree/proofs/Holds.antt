@@ -5,10 +5,10 @@ use Rattle.configfs_tree.specs.Table.{put_parsed}
 use Rattle.configfs_tree.specs.declared.edits.Errno.{Errno}
 use Rattle.configfs_tree.specs.declared.edits.Errno.TheVariants.{ENOENT, EINVAL}
 use Rattle.configfs_tree.specs.declared.edits.Change.{Change}
-use Rattle.configfs_tree.specs.declared.namespaces.NamespaceRow.{NamespaceRow}
-use Rattle.configfs_tree.specs.declared.subsystems.SubsystemRow.{SubsystemRow}
-use Rattle.configfs_tree.specs.declared.ports.AnaState.{AnaState}
-use Rattle.configfs_tree.specs.declared.ports.PortRow.{PortRow}
+use Rattle.configfs_rows.specs.declared.namespaces.NamespaceRow.{NamespaceRow}
+use Rattle.configfs_rows.specs.declared.subsystems.SubsystemRow.{SubsystemRow}
+use Rattle.configfs_rows.specs.declared.ports.AnaState.{AnaState}
+use Rattle.configfs_rows.specs.declared.ports.PortRow.{PortRow}
 use Rattle.configfs_tree.specs.declared.tree.Tree.{Tree}
 
 abbrev IfAccepts : (Tree → Change → Type 0) → Outcome → Type 0

@@ -7,22 +7,22 @@ use Rattle.std.specs.Cmp.{nat_cmp_total}
 use Rattle.std.specs.Cmp.Lexicographic.{nat_list_cmp_total}
 use Rattle.std.specs.FinMap as map
 use Rattle.std.specs.FinMap.{FinMap, nat_cmp-IsAntisymmetric, slice_cmp-IsAntisymmetric, IsAntisymmetric}
-use Rattle.configfs_tree.specs.Nqns.{name_order}
-use Rattle.configfs_tree.specs.Maps.{update_at}
-use Rattle.configfs_tree.specs.Rows.{put_in}
-use Rattle.configfs_tree.specs.Subsystems.{fresh_subsystem, put_namespace}
-use Rattle.configfs_tree.specs.Holders.{holds_path}
+use Rattle.configfs_rows.specs.Nqns.{name_order}
+use Rattle.configfs_rows.specs.Maps.{update_at}
+use Rattle.configfs_rows.specs.Rows.{put_in}
+use Rattle.configfs_rows.specs.Subsystems.{fresh_subsystem, put_namespace}
+use Rattle.configfs_rows.specs.Holders.{holds_path}
 use Rattle.configfs_tree.specs.Outcome.{with_settings, on_subsystem, on_port, counted}
 use Rattle.configfs_tree.specs.Standing.{Placed, placed_row, placed_in, placed, HasHolders, SubsystemPlaces, IsStanding}
-use Rattle.configfs_tree.specs.declared.limits.TheConstants.{MAX_SUBSYSTEMS, MAX_PORTS}
-use Rattle.configfs_tree.specs.declared.namespaces.NamespaceRow.{NamespaceRow}
-use Rattle.configfs_tree.specs.declared.namespaces.NamespacePut.{NamespacePut}
-use Rattle.configfs_tree.specs.declared.subsystems.SubsystemRow.{SubsystemRow}
-use Rattle.configfs_tree.specs.declared.ports.AnaState.{AnaState}
-use Rattle.configfs_tree.specs.declared.ports.PortRow.{PortRow}
+use Rattle.configfs_rows.specs.declared.limits.TheConstants.{MAX_SUBSYSTEMS, MAX_PORTS}
+use Rattle.configfs_rows.specs.declared.namespaces.NamespaceRow.{NamespaceRow}
+use Rattle.configfs_rows.specs.declared.namespaces.NamespacePut.{NamespacePut}
+use Rattle.configfs_rows.specs.declared.subsystems.SubsystemRow.{SubsystemRow}
+use Rattle.configfs_rows.specs.declared.ports.AnaState.{AnaState}
+use Rattle.configfs_rows.specs.declared.ports.PortRow.{PortRow}
 use Rattle.configfs_tree.specs.declared.tree.Tree.{Tree}
-use Rattle.configfs_tree.proofs.Gets.{some_same, none_some, cases_key, get-insert_at, get-insert_beside, get-remove_at, get-remove_beside, get-update_at, get-update_beside, update_none, was_at}
-use Rattle.configfs_tree.proofs.Placing.{places_updated}
+use Rattle.configfs_rows.proofs.Gets.{some_same, none_some, cases_key, get-insert_at, get-insert_beside, get-remove_at, get-remove_beside, get-update_at, get-update_beside, update_none, was_at}
+use Rattle.configfs_rows.proofs.Placing.{places_updated}
 use Rattle.configfs_tree.proofs.Held.{here, cases_name, moved_same, altered_kept, altered_free}
 
 abbrev pub Rows : Type 0

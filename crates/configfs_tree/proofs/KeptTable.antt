@@ -8,35 +8,35 @@ use Rattle.std.specs.Cmp.{nat_cmp_total}
 use Rattle.std.specs.Cmp.Lexicographic.{nat_list_cmp_total}
 use Rattle.std.specs.FinMap as map
 use Rattle.std.specs.FinMap.{FinMap, nat_cmp-IsAntisymmetric}
-use Rattle.configfs_tree.specs.Nqns.{name_order}
-use Rattle.configfs_tree.specs.Maps.{update_at}
-use Rattle.configfs_tree.specs.Rows.{put_in, fresh_namespace}
-use Rattle.configfs_tree.specs.Subsystems.{fresh_subsystem, put_in_subsystem, put_allowed, put_namespace}
-use Rattle.configfs_tree.specs.Ports.{fresh_port, with_address, put_link, put_group, remove_group}
-use Rattle.configfs_tree.specs.Places.{lowest_free}
-use Rattle.configfs_tree.specs.Holders.{disk_of, holder_of, hold, holds_path, has_disk, is_held, path_or_empty}
+use Rattle.configfs_rows.specs.Nqns.{name_order}
+use Rattle.configfs_rows.specs.Maps.{update_at}
+use Rattle.configfs_rows.specs.Rows.{put_in, fresh_namespace}
+use Rattle.configfs_rows.specs.Subsystems.{fresh_subsystem, put_in_subsystem, put_allowed, put_namespace}
+use Rattle.configfs_rows.specs.Ports.{fresh_port, with_address, put_link, put_group, remove_group}
+use Rattle.configfs_rows.specs.Places.{lowest_free}
+use Rattle.configfs_rows.specs.Holders.{disk_of, holder_of, hold, holds_path, has_disk, is_held, path_or_empty}
 use Rattle.configfs_tree.specs.Outcome.{Outcome, unless_stands, on_subsystem, on_port}
 use Rattle.configfs_tree.specs.Standing.{Placed, placed_row, placed_in, placed, HasHolders, IsStanding}
-use Rattle.configfs_tree.specs.declared.limits.TheConstants.{MAX_SUBSYSTEMS, MAX_PORTS}
-use Rattle.configfs_tree.specs.declared.disks.DiskRow.{DiskRow}
-use Rattle.configfs_tree.specs.declared.disks.Holder.{Holder}
+use Rattle.configfs_rows.specs.declared.limits.TheConstants.{MAX_SUBSYSTEMS, MAX_PORTS}
+use Rattle.configfs_rows.specs.declared.disks.DiskRow.{DiskRow}
+use Rattle.configfs_rows.specs.declared.disks.Holder.{Holder}
 use Rattle.configfs_tree.specs.declared.edits.Errno.{Errno}
-use Rattle.configfs_tree.specs.declared.namespaces.NamespaceRow.{NamespaceRow}
-use Rattle.configfs_tree.specs.declared.subsystems.SubsystemRow.{SubsystemRow}
-use Rattle.configfs_tree.specs.declared.ports.AnaState.{AnaState}
-use Rattle.configfs_tree.specs.declared.ports.PortRow.{PortRow}
+use Rattle.configfs_rows.specs.declared.namespaces.NamespaceRow.{NamespaceRow}
+use Rattle.configfs_rows.specs.declared.subsystems.SubsystemRow.{SubsystemRow}
+use Rattle.configfs_rows.specs.declared.ports.AnaState.{AnaState}
+use Rattle.configfs_rows.specs.declared.ports.PortRow.{PortRow}
 use Rattle.configfs_tree.specs.declared.tree.Tree.{Tree}
-use Rattle.configfs_tree.proofs.Gets.{some_same, none_some, cases_key, get-insert_at, get-insert_beside, get-remove_at, get-remove_beside, get-update_at, get-update_beside}
+use Rattle.configfs_rows.proofs.Gets.{some_same, none_some, cases_key, get-insert_at, get-insert_beside, get-remove_at, get-remove_beside, get-update_at, get-update_beside}
 use Rattle.configfs_tree.proofs.Kept.{names_same, none_of_test, placed_made, placed_removed, placed_others, placed_here, placed_was, subsystems_changed, count_changed, subsystem_put, namespace_put, namespace_free, port_put, one_put, one_removed}
 use Rattle.configfs_tree.proofs.Holds.{Holds, refuses, accepted, holds_row, holds_end, holds_last, holds_either, holds_unless, holds_if_subsystem, holds_if_namespace, holds_if_port, holds_if_group, holds_parsed}
-use Rattle.configfs_tree.proofs.Placing.{places_inserted, places_removed, places_updated, place_is_free, stands_at_none}
+use Rattle.configfs_rows.proofs.Placing.{places_inserted, places_removed, places_updated, place_is_free, stands_at_none}
 use Rattle.configfs_tree.proofs.Held.{here, moved_same, enabled_kept, drained_kept, holder_holds, holding}
 use Rattle.std.specs.Prelude.{OnOk, OnErr, IfOk}
 use Rattle.mem_bdev.specs.declared.disk.DiskLine.{DiskLine}
 use Rattle.configfs_tree.specs.declared.edits.Change.{Change}
 use Rattle.configfs_tree.specs.declared.edits.Refused.{Refused}
 use Rattle.configfs_tree.specs.declared.edits.Refused.TheVariants as refused
-use Rattle.configfs_tree.specs.declared.namespaces.Phase.TheVariants as phase
+use Rattle.configfs_rows.specs.declared.namespaces.Phase.TheVariants as phase
 use Rattle.configfs_tree.specs.Gives.{Gives, GivesErrno}
 use Rattle.configfs_tree.specs.Phases.{phase_from, phase_of_some, phase_in, phase_at}
 use Rattle.configfs_tree.specs.Drained.{freed_path, freed_by, freed_in, drained}
@@ -45,14 +45,14 @@ use Rattle.configfs_tree.specs.Links.{allowed_in, linked_in, with_attached, with
 use Rattle.configfs_tree.specs.Standing.{AnotherHas, HeldMeansAnother}
 use mathlib.Core.List.{map as map_list}
 use Rattle.uuid.specs.Text.{parsed}
-use Rattle.configfs_tree.specs.Values.{group_named, state_named}
+use Rattle.configfs_rows.specs.Values.{group_named, state_named}
 use Rattle.configfs_tree.specs.Asked.{is_busy, path_names_disk, path_is_held, subsystem_place_taken, port_place_taken}
-use Rattle.configfs_tree.specs.declared.namespaces.NamespacePut.TheVariants.{Path, Uuid, Nguid, Group, Enabled}
-use Rattle.configfs_tree.specs.declared.subsystems.SubsystemPut.{SubsystemPut}
-use Rattle.configfs_tree.specs.declared.subsystems.SubsystemPut.TheVariants.{AllowAnyHost, Serial, ModelName}
-use Rattle.configfs_tree.specs.declared.ports.AnaState.TheVariants as state
-use Rattle.configfs_tree.specs.declared.ports.Address.{Address}
-use Rattle.configfs_tree.specs.declared.ports.Address.TheVariants as address
+use Rattle.configfs_rows.specs.declared.namespaces.NamespacePut.TheVariants.{Path, Uuid, Nguid, Group, Enabled}
+use Rattle.configfs_rows.specs.declared.subsystems.SubsystemPut.{SubsystemPut}
+use Rattle.configfs_rows.specs.declared.subsystems.SubsystemPut.TheVariants.{AllowAnyHost, Serial, ModelName}
+use Rattle.configfs_rows.specs.declared.ports.AnaState.TheVariants as state
+use Rattle.configfs_rows.specs.declared.ports.Address.{Address}
+use Rattle.configfs_rows.specs.declared.ports.Address.TheVariants as address
 use Rattle.configfs_tree.specs.declared.edits.Attr.{Attr}
 use Rattle.configfs_tree.specs.declared.edits.Attr.TheVariants as attr
 use Rattle.configfs_tree.specs.declared.edits.Folder.{Folder}

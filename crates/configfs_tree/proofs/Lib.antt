@@ -1,10 +1,3 @@
-pub mod Holding
-pub mod LowFree
-pub mod Scans
-pub mod Seen
-pub mod Texts
-pub mod Gets
-pub mod Placing
 pub mod Held
 pub mod Holds
 pub mod Kept

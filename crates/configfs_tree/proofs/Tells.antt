@@ -6,21 +6,21 @@ use Rattle.std.specs.declared.cmp.Ordering.{Ordering}
 use Rattle.std.specs.Cmp.{IsTotalOrder, nat_cmp_total}
 use Rattle.std.specs.FinMap as map
 use Rattle.std.specs.FinMap.{FinMap, IsAntisymmetric, nat_cmp-IsAntisymmetric}
-use Rattle.configfs_tree.specs.Maps.{update_at}
-use Rattle.configfs_tree.specs.Rows.{put_in}
+use Rattle.configfs_rows.specs.Maps.{update_at}
+use Rattle.configfs_rows.specs.Rows.{put_in}
 use Rattle.configfs_tree.specs.Outcome.{nothing, touching, namespace_change, port_change, group_change, on_port, counted}
 use Rattle.configfs_tree.specs.Standing.{Placed, placed}
 use Rattle.configfs_tree.specs.Told.{Tells, NamesSpace, OneOf, OneRow, enabled_row, subsystem_front, port_front, group_in}
-use Rattle.configfs_tree.specs.declared.disks.DiskRow.{DiskRow}
+use Rattle.configfs_rows.specs.declared.disks.DiskRow.{DiskRow}
 use Rattle.configfs_tree.specs.declared.edits.Touched.{Touched}
 use Rattle.configfs_tree.specs.declared.edits.Touched.TheVariants as touches
-use Rattle.configfs_tree.specs.declared.namespaces.NamespaceRow.{NamespaceRow}
-use Rattle.configfs_tree.specs.declared.namespaces.NamespacePut.TheVariants.{Group, Enabled}
-use Rattle.configfs_tree.specs.declared.subsystems.SubsystemRow.{SubsystemRow}
-use Rattle.configfs_tree.specs.declared.ports.PortRow.{PortRow}
+use Rattle.configfs_rows.specs.declared.namespaces.NamespaceRow.{NamespaceRow}
+use Rattle.configfs_rows.specs.declared.namespaces.NamespacePut.TheVariants.{Group, Enabled}
+use Rattle.configfs_rows.specs.declared.subsystems.SubsystemRow.{SubsystemRow}
+use Rattle.configfs_rows.specs.declared.ports.PortRow.{PortRow}
 use Rattle.configfs_tree.specs.declared.tree.Settings.{Settings}
 use Rattle.configfs_tree.specs.declared.tree.Tree.{Tree}
-use Rattle.configfs_tree.proofs.Gets.{some_same, none_some, cases_key, get-insert_at, get-remove_at, get-update_at, get-update_beside}
+use Rattle.configfs_rows.proofs.Gets.{some_same, none_some, cases_key, get-insert_at, get-remove_at, get-update_at, get-update_beside}
 use Rattle.configfs_tree.proofs.Held.{here, Slot, is_slot, no_slot, cases_slot, cases_name}
 use Rattle.configfs_tree.proofs.Kept.{Rows}
 use Rattle.configfs_tree.proofs.Slots.{Ports, OneSlot, slot_look, slot_both, same_ports, other_ports}

@@ -6,23 +6,23 @@ use Rattle.std.specs.Cmp.{nat_cmp_total}
 use Rattle.std.specs.Cmp.Lexicographic.{nat_list_cmp_total}
 use Rattle.std.specs.FinMap as map
 use Rattle.std.specs.FinMap.{FinMap, nat_cmp-IsAntisymmetric}
-use Rattle.configfs_tree.specs.Nqns.{name_order}
-use Rattle.configfs_tree.specs.Maps.{update_at}
-use Rattle.configfs_tree.specs.Rows.{put_in, fresh_namespace}
-use Rattle.configfs_tree.specs.Subsystems.{fresh_subsystem, put_in_subsystem, put_namespace}
-use Rattle.configfs_tree.specs.Ports.{fresh_port, address_of, with_address, put_group, remove_group}
-use Rattle.configfs_tree.specs.Places.{lowest_free}
-use Rattle.configfs_tree.specs.Holders.{hold, holds_path, path_or_empty}
+use Rattle.configfs_rows.specs.Nqns.{name_order}
+use Rattle.configfs_rows.specs.Maps.{update_at}
+use Rattle.configfs_rows.specs.Rows.{put_in, fresh_namespace}
+use Rattle.configfs_rows.specs.Subsystems.{fresh_subsystem, put_in_subsystem, put_namespace}
+use Rattle.configfs_rows.specs.Ports.{fresh_port, address_of, with_address, put_group, remove_group}
+use Rattle.configfs_rows.specs.Places.{lowest_free}
+use Rattle.configfs_rows.specs.Holders.{hold, holds_path, path_or_empty}
 use Rattle.configfs_tree.specs.Outcome.{Outcome, unless_stands, on_subsystem}
 use Rattle.configfs_tree.specs.Standing.{Placed, placed_in}
-use Rattle.configfs_tree.specs.declared.limits.TheConstants.{MAX_SUBSYSTEMS, MAX_PORTS}
+use Rattle.configfs_rows.specs.declared.limits.TheConstants.{MAX_SUBSYSTEMS, MAX_PORTS}
 use Rattle.configfs_tree.specs.declared.edits.Errno.{Errno}
-use Rattle.configfs_tree.specs.declared.namespaces.NamespaceRow.{NamespaceRow}
-use Rattle.configfs_tree.specs.declared.subsystems.SubsystemRow.{SubsystemRow}
-use Rattle.configfs_tree.specs.declared.ports.AnaState.{AnaState}
-use Rattle.configfs_tree.specs.declared.ports.PortRow.{PortRow}
+use Rattle.configfs_rows.specs.declared.namespaces.NamespaceRow.{NamespaceRow}
+use Rattle.configfs_rows.specs.declared.subsystems.SubsystemRow.{SubsystemRow}
+use Rattle.configfs_rows.specs.declared.ports.AnaState.{AnaState}
+use Rattle.configfs_rows.specs.declared.ports.PortRow.{PortRow}
 use Rattle.configfs_tree.specs.declared.tree.Tree.{Tree}
-use Rattle.configfs_tree.proofs.Gets.{some_same, none_some, get-insert_at, get-insert_beside, get-remove_beside, get-update_beside}
+use Rattle.configfs_rows.proofs.Gets.{some_same, none_some, get-insert_at, get-insert_beside, get-remove_beside, get-update_beside}
 use Rattle.configfs_tree.proofs.Kept.{names_same, none_of_test, placed_made, placed_removed}
 use Rattle.configfs_tree.proofs.Holds.{Holds, refuses, accepted, holds_row, holds_end, holds_last, holds_either, holds_unless, holds_if_subsystem, holds_if_namespace, holds_if_port, holds_if_group, holds_parsed}
 use Rattle.configfs_tree.proofs.Held.{here}
@@ -31,14 +31,14 @@ use Rattle.configfs_tree.specs.declared.edits.Change.{Change}
 use Rattle.configfs_tree.specs.declared.edits.Refused.{Refused}
 use Rattle.configfs_tree.specs.Gives.{Gives, GivesErrno}
 use Rattle.uuid.specs.Text.{parsed}
-use Rattle.configfs_tree.specs.Values.{group_named, state_named}
+use Rattle.configfs_rows.specs.Values.{group_named, state_named}
 use Rattle.configfs_tree.specs.Asked.{subsystem_place_taken, port_place_taken}
-use Rattle.configfs_tree.specs.declared.namespaces.NamespacePut.TheVariants.{Path, Uuid, Nguid, Group, Enabled}
-use Rattle.configfs_tree.specs.declared.subsystems.SubsystemPut.{SubsystemPut}
-use Rattle.configfs_tree.specs.declared.subsystems.SubsystemPut.TheVariants.{AllowAnyHost, Serial, ModelName}
-use Rattle.configfs_tree.specs.declared.ports.AnaState.TheVariants as state
-use Rattle.configfs_tree.specs.declared.ports.Address.{Address}
-use Rattle.configfs_tree.specs.declared.ports.Address.TheVariants as address
+use Rattle.configfs_rows.specs.declared.namespaces.NamespacePut.TheVariants.{Path, Uuid, Nguid, Group, Enabled}
+use Rattle.configfs_rows.specs.declared.subsystems.SubsystemPut.{SubsystemPut}
+use Rattle.configfs_rows.specs.declared.subsystems.SubsystemPut.TheVariants.{AllowAnyHost, Serial, ModelName}
+use Rattle.configfs_rows.specs.declared.ports.AnaState.TheVariants as state
+use Rattle.configfs_rows.specs.declared.ports.Address.{Address}
+use Rattle.configfs_rows.specs.declared.ports.Address.TheVariants as address
 use Rattle.configfs_tree.specs.declared.edits.Attr.{Attr}
 use Rattle.configfs_tree.specs.declared.edits.Attr.TheVariants as attr
 use Rattle.configfs_tree.specs.declared.edits.Folder.{Folder}
@@ -50,13 +50,12 @@ use Rattle.configfs_tree.specs.Table.{mkdir_host, mkdir_subsystem, mkdir_namespa
 use Rattle.configfs_tree.specs.Table.{set_attr_allow_any_host, set_attr_serial, set_attr_model, set_device_path, set_device_uuid, set_device_nguid, set_ana_grpid, set_enable, set_addr_trtype, set_addr_adrfam, set_addr_treq, set_addr_traddr, set_addr_trsvcid, set_ana_state}
 use Rattle.std.proofs.lemmas.Slice.Eq.{bytes_eq-Decides}
 use Rattle.std.proofs.lemmas.Bool.{eq-eqb}
-use Rattle.configfs_tree.specs.Asked.{has_path}
 use Rattle.configfs_tree.specs.Outcome.{touching}
-use Rattle.configfs_tree.specs.Subsystems.{add_namespace, remove_namespace}
+use Rattle.configfs_rows.specs.Subsystems.{add_namespace, remove_namespace}
 use Rattle.configfs_tree.specs.Told.{Tells}
-use Rattle.configfs_tree.specs.Values.{same_bool, same_state, state_number}
+use Rattle.configfs_rows.specs.Values.{has_path, same_bool, same_state, state_number}
 use Rattle.configfs_tree.specs.declared.edits.Touched.TheVariants as touches
-use Rattle.configfs_tree.specs.declared.namespaces.NamespacePut.{NamespacePut}
+use Rattle.configfs_rows.specs.declared.namespaces.NamespacePut.{NamespacePut}
 use Rattle.configfs_tree.proofs.Kept.{placed_attr}
 use Rattle.configfs_tree.proofs.KeptTable.{left_false, none_below}
 use Rattle.configfs_tree.proofs.Slots.{slot_put, slot_made, slot_gone, put_ports, made_ports, gone_ports}

@@ -3,12 +3,12 @@ use Rattle.std.specs.Prelude.{ℕ, ◌==◌, ◌&&◌, ◌||◌, not, nat_lt, Bo
 use Rattle.std.specs.List.{list_any}
 use Rattle.std.specs.Str.{bytes_eq}
 use Rattle.std.specs.FinMap as map
-use Rattle.configfs_tree.specs.Holders.{holds_path, has_disk, is_held}
-use Rattle.configfs_tree.specs.declared.namespaces.NamespaceRow.{NamespaceRow}
-use Rattle.configfs_tree.specs.declared.subsystems.SubsystemRow.{SubsystemRow}
-use Rattle.configfs_tree.specs.declared.ports.PortRow.{PortRow}
+use Rattle.configfs_rows.specs.Holders.{holds_path, has_disk, is_held}
+use Rattle.configfs_rows.specs.declared.namespaces.NamespaceRow.{NamespaceRow}
+use Rattle.configfs_rows.specs.declared.subsystems.SubsystemRow.{SubsystemRow}
+use Rattle.configfs_rows.specs.declared.ports.PortRow.{PortRow}
 use Rattle.configfs_tree.specs.declared.tree.Tree.{Tree}
-use Rattle.configfs_tree.specs.Values.{is_text}
+use Rattle.configfs_rows.specs.Values.{is_text}
 use Rattle.configfs_tree.specs.declared.edits.Attr.{Attr}
 use Rattle.configfs_tree.specs.declared.edits.Attr.TheVariants as attr
 use Rattle.configfs_tree.specs.declared.edits.Folder.{Folder}
@@ -51,11 +51,6 @@ subsystem_place_taken t at = list_any (λ (s : SubsystemRow). s.at == at) (map.v
 
 abbrev pub port_place_taken : Tree → ℕ → Bool
 port_place_taken t at = list_any (λ (p : PortRow). p.at == at) (map.values t.settings.ports)
-
--- ---- standing values
-abbrev pub has_path : Option (List ℕ) → List ℕ → Bool
-has_path None value = false
-has_path (Some path) value = bytes_eq path value
 
 -- ---- edits as a script or a configuration brings them
 -- the attribute is one of the folder's

@@ -2,12 +2,12 @@
 use Rattle.std.specs.Prelude.{ℕ, ◌+◌, ◌==◌, ◌&&◌, ◌||◌, Bool, false, List, Option, Some, None, if◌then◌else◌, slice_set, slice_index}
 use Rattle.std.specs.List.{find}
 use Rattle.std.specs.FinMap as map
-use Rattle.configfs_tree.specs.Nqns.{is_nqn}
-use Rattle.configfs_tree.specs.Subsystems.{put_allowed}
-use Rattle.configfs_tree.specs.Ports.{put_link}
+use Rattle.configfs_rows.specs.Nqns.{is_nqn}
+use Rattle.configfs_rows.specs.Subsystems.{put_allowed}
+use Rattle.configfs_rows.specs.Ports.{put_link}
 use Rattle.configfs_tree.specs.Outcome.{with_settings, on_subsystem, on_port}
-use Rattle.configfs_tree.specs.declared.subsystems.SubsystemRow.{SubsystemRow}
-use Rattle.configfs_tree.specs.declared.ports.PortRow.{PortRow}
+use Rattle.configfs_rows.specs.declared.subsystems.SubsystemRow.{SubsystemRow}
+use Rattle.configfs_rows.specs.declared.ports.PortRow.{PortRow}
 use Rattle.configfs_tree.specs.declared.tree.Tree.{Tree}
 
 -- ---- rows and positions

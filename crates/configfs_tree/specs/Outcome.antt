@@ -1,11 +1,11 @@
 -- What an edit comes to: an errno, or the new tree with what changed.
 use Rattle.std.specs.Prelude.{ℕ, ◌+◌, ◌^◌, ◌-◌, min, Bool, true, false, if◌then◌else◌, List, [], ◌∷◌, Option, Some, None}
 use Rattle.std.specs.FinMap as map
-use Rattle.configfs_tree.specs.Maps.{update_at}
-use Rattle.configfs_tree.specs.declared.namespaces.NamespaceRow.{NamespaceRow}
-use Rattle.configfs_tree.specs.declared.subsystems.SubsystemRow.{SubsystemRow}
-use Rattle.configfs_tree.specs.declared.ports.AnaState.{AnaState}
-use Rattle.configfs_tree.specs.declared.ports.PortRow.{PortRow}
+use Rattle.configfs_rows.specs.Maps.{update_at}
+use Rattle.configfs_rows.specs.declared.namespaces.NamespaceRow.{NamespaceRow}
+use Rattle.configfs_rows.specs.declared.subsystems.SubsystemRow.{SubsystemRow}
+use Rattle.configfs_rows.specs.declared.ports.AnaState.{AnaState}
+use Rattle.configfs_rows.specs.declared.ports.PortRow.{PortRow}
 use Rattle.configfs_tree.specs.declared.edits.Errno.{Errno}
 use Rattle.configfs_tree.specs.declared.edits.Errno.TheVariants.{ENOENT}
 use Rattle.configfs_tree.specs.declared.edits.Change.{Change}

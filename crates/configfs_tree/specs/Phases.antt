@@ -1,11 +1,11 @@
 -- The phase of a namespace: enabled, or draining from the edit that disables it to the end of its drain, or off. A life begins where it gets enabled and ends with its drain. While the life lasts the namespace holds the disk of its path, and no other namespace does, so the disk tells the life.
 use Rattle.std.specs.Prelude.{ℕ, Bool, true, false, List, Option, Some, None}
 use Rattle.std.specs.FinMap as map
-use Rattle.configfs_tree.specs.Holders.{holds_path}
-use Rattle.configfs_tree.specs.declared.namespaces.Phase.{Phase}
-use Rattle.configfs_tree.specs.declared.namespaces.Phase.TheVariants as phase
-use Rattle.configfs_tree.specs.declared.namespaces.NamespaceRow.{NamespaceRow}
-use Rattle.configfs_tree.specs.declared.subsystems.SubsystemRow.{SubsystemRow}
+use Rattle.configfs_rows.specs.Holders.{holds_path}
+use Rattle.configfs_rows.specs.declared.namespaces.Phase.{Phase}
+use Rattle.configfs_rows.specs.declared.namespaces.Phase.TheVariants as phase
+use Rattle.configfs_rows.specs.declared.namespaces.NamespaceRow.{NamespaceRow}
+use Rattle.configfs_rows.specs.declared.subsystems.SubsystemRow.{SubsystemRow}
 use Rattle.configfs_tree.specs.declared.tree.Tree.{Tree}
 
 -- by whether it is enabled and whether it holds the disk of its path

@@ -1,23 +1,17 @@
 -- The standing facts, which hold of every tree that calls reach.
-use Rattle.std.specs.Prelude.{◌≡◌, ◌<◌, ◌↔◌, ℕ, ◌||◌, Bool, List, Option, Some, None, IsTrue}
-use Rattle.std.specs.declared.cmp.Ordering.{Ordering}
+use Rattle.std.specs.Prelude.{◌≡◌, ◌↔◌, ℕ, ◌||◌, Bool, List, Option, Some, None, IsTrue}
 use Rattle.std.specs.FinMap as map
 use Rattle.std.specs.FinMap.{FinMap}
-use Rattle.configfs_tree.specs.Nqns.{name_order}
-use Rattle.configfs_tree.specs.Holders.{disk_of, holds_path, is_held}
-use Rattle.configfs_tree.specs.declared.limits.TheConstants.{MAX_SUBSYSTEMS, MAX_PORTS}
-use Rattle.configfs_tree.specs.declared.disks.DiskRow.{DiskRow}
-use Rattle.configfs_tree.specs.declared.disks.Holder.{Holder}
-use Rattle.configfs_tree.specs.declared.namespaces.NamespaceRow.{NamespaceRow}
-use Rattle.configfs_tree.specs.declared.subsystems.SubsystemRow.{SubsystemRow}
-use Rattle.configfs_tree.specs.declared.ports.PortRow.{PortRow}
+use Rattle.configfs_rows.specs.Nqns.{name_order}
+use Rattle.configfs_rows.specs.Places.{HasPlaces}
+use Rattle.configfs_rows.specs.Holders.{disk_of, holds_path, is_held}
+use Rattle.configfs_rows.specs.declared.limits.TheConstants.{MAX_SUBSYSTEMS, MAX_PORTS}
+use Rattle.configfs_rows.specs.declared.disks.DiskRow.{DiskRow}
+use Rattle.configfs_rows.specs.declared.disks.Holder.{Holder}
+use Rattle.configfs_rows.specs.declared.namespaces.NamespaceRow.{NamespaceRow}
+use Rattle.configfs_rows.specs.declared.subsystems.SubsystemRow.{SubsystemRow}
+use Rattle.configfs_rows.specs.declared.ports.PortRow.{PortRow}
 use Rattle.configfs_tree.specs.declared.tree.Tree.{Tree}
-
--- the rows of a map have their keys, and their positions are in range and distinct
-pub record HasPlaces {K X : Type 0} {R : K → K → Ordering} (key : X → K) (at : X → ℕ) (most : ℕ) (m : FinMap R X) : Type 0 where
-  pub own_key : (k : K) (x : X) → map.get m k ≡ Some x → key x ≡ k
-  pub below : (k : K) (x : X) → map.get m k ≡ Some x → at x < most
-  pub apart : (j k : K) (x y : X) → map.get m j ≡ Some x → map.get m k ≡ Some y → at x ≡ at y → j ≡ k
 
 -- a namespace with the position of its subsystem
 pub record Placed : Type 0 where

@@ -2,8 +2,8 @@
 use Rattle.std.specs.Prelude.{List, None, map, replicate}
 use Rattle.std.specs.FinMap as maps
 use Rattle.mem_bdev.specs.declared.disk.DiskLine.{DiskLine}
-use Rattle.configfs_tree.specs.declared.limits.TheConstants.{MAX_SUBSYSTEMS, MAX_PORTS}
-use Rattle.configfs_tree.specs.declared.disks.DiskRow.{DiskRow}
+use Rattle.configfs_rows.specs.declared.limits.TheConstants.{MAX_SUBSYSTEMS, MAX_PORTS}
+use Rattle.configfs_rows.specs.declared.disks.DiskRow.{DiskRow}
 use Rattle.configfs_tree.specs.declared.tree.Settings.{Settings}
 use Rattle.configfs_tree.specs.declared.tree.Tree.{Tree}
 

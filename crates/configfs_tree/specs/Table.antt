@@ -2,26 +2,26 @@
 use Rattle.std.specs.Prelude.{ℕ, ◌==◌, ◌&&◌, ◌||◌, not, nat_lt, nat_le, Bool, true, false, List, [], ◌∷◌, length, codes, Option, Some, None}
 use Rattle.std.specs.Str.{bytes_eq}
 use Rattle.std.specs.FinMap as map
-use Rattle.configfs_tree.specs.Nqns.{discovery_nqn}
-use Rattle.configfs_tree.specs.Values.{is_path, one_of, group_named, state_named, same_state, same_bool}
-use Rattle.configfs_tree.specs.Subsystems.{fresh_subsystem, put_in_subsystem, put_namespace, add_namespace, remove_namespace}
-use Rattle.configfs_tree.specs.Ports.{fresh_port, address_of, with_address, put_group, remove_group}
-use Rattle.configfs_tree.specs.Asked.{is_busy, is_draining, path_names_disk, path_is_held, some_port_links, some_subsystem_allows, controller_at_subsystem, controller_at_port, subsystem_place_taken, port_place_taken, has_path}
-use Rattle.configfs_tree.specs.Holders.{hold, path_or_empty}
-use Rattle.configfs_tree.specs.Places.{lowest_free}
+use Rattle.configfs_rows.specs.Nqns.{discovery_nqn}
+use Rattle.configfs_rows.specs.Values.{is_path, has_path, one_of, group_named, state_named, same_state, same_bool}
+use Rattle.configfs_rows.specs.Subsystems.{fresh_subsystem, put_in_subsystem, put_namespace, add_namespace, remove_namespace}
+use Rattle.configfs_rows.specs.Ports.{fresh_port, address_of, with_address, put_group, remove_group}
+use Rattle.configfs_tree.specs.Asked.{is_busy, is_draining, path_names_disk, path_is_held, some_port_links, some_subsystem_allows, controller_at_subsystem, controller_at_port, subsystem_place_taken, port_place_taken}
+use Rattle.configfs_rows.specs.Holders.{hold, path_or_empty}
+use Rattle.configfs_rows.specs.Places.{lowest_free}
 use Rattle.configfs_tree.specs.Outcome.{Outcome, Refuses, Accepts, first_of, either, touching, namespace_change, port_change, group_change, unless_stands, with_settings, on_subsystem, on_port, counted, in_subsystem, in_namespace, in_port, in_group}
 use Rattle.uuid.specs.Text.{parsed}
-use Rattle.configfs_tree.specs.declared.limits.TheConstants.{MAX_HOSTS, MAX_SUBSYSTEMS, MAX_PORTS, MAX_NSID, MAX_ANA_GROUPS, SERIAL_LEN, MODEL_LEN, TRADDR_LEN, TRSVCID_LEN}
-use Rattle.configfs_tree.specs.declared.namespaces.NamespaceRow.{NamespaceRow}
-use Rattle.configfs_tree.specs.declared.namespaces.NamespacePut.{NamespacePut}
-use Rattle.configfs_tree.specs.declared.namespaces.NamespacePut.TheVariants.{Path, Uuid, Nguid, Group, Enabled}
-use Rattle.configfs_tree.specs.declared.subsystems.SubsystemRow.{SubsystemRow}
-use Rattle.configfs_tree.specs.declared.subsystems.SubsystemPut.TheVariants.{AllowAnyHost, Serial, ModelName}
-use Rattle.configfs_tree.specs.declared.ports.AnaState.{AnaState}
-use Rattle.configfs_tree.specs.declared.ports.AnaState.TheVariants as state
-use Rattle.configfs_tree.specs.declared.ports.PortRow.{PortRow}
-use Rattle.configfs_tree.specs.declared.ports.Address.{Address}
-use Rattle.configfs_tree.specs.declared.ports.Address.TheVariants.{Trtype, Adrfam, Traddr, Trsvcid, Treq}
+use Rattle.configfs_rows.specs.declared.limits.TheConstants.{MAX_HOSTS, MAX_SUBSYSTEMS, MAX_PORTS, MAX_NSID, MAX_ANA_GROUPS, SERIAL_LEN, MODEL_LEN, TRADDR_LEN, TRSVCID_LEN}
+use Rattle.configfs_rows.specs.declared.namespaces.NamespaceRow.{NamespaceRow}
+use Rattle.configfs_rows.specs.declared.namespaces.NamespacePut.{NamespacePut}
+use Rattle.configfs_rows.specs.declared.namespaces.NamespacePut.TheVariants.{Path, Uuid, Nguid, Group, Enabled}
+use Rattle.configfs_rows.specs.declared.subsystems.SubsystemRow.{SubsystemRow}
+use Rattle.configfs_rows.specs.declared.subsystems.SubsystemPut.TheVariants.{AllowAnyHost, Serial, ModelName}
+use Rattle.configfs_rows.specs.declared.ports.AnaState.{AnaState}
+use Rattle.configfs_rows.specs.declared.ports.AnaState.TheVariants as state
+use Rattle.configfs_rows.specs.declared.ports.PortRow.{PortRow}
+use Rattle.configfs_rows.specs.declared.ports.Address.{Address}
+use Rattle.configfs_rows.specs.declared.ports.Address.TheVariants.{Trtype, Adrfam, Traddr, Trsvcid, Treq}
 use Rattle.configfs_tree.specs.declared.edits.Attr.{Attr}
 use Rattle.configfs_tree.specs.declared.edits.Attr.TheVariants as attr
 use Rattle.configfs_tree.specs.declared.edits.Folder.{Folder}

@@ -4,12 +4,11 @@ ghost use Rattle.configfs_tree.specs.Gives.{Gives, GivesErrno, with_errno};
 ghost use Rattle.configfs_tree.specs.Standing.{IsStanding};
 ghost use Rattle.configfs_tree.specs.Table.{edit_outcome, mkdir, rmdir, set_of_subsystem, set_of_namespace, set_of_port, set_of_group};
 ghost use Rattle.configfs_tree.specs.Told.{Tells};
-ghost use Rattle.configfs_tree.specs.Values.{is_text};
+ghost use Rattle.configfs_rows.specs.Values.{is_text};
 
 use crate::edits::{Attr, Change, Errno, Folder, FolderEdit, Refused};
-use crate::nqn::Nqn;
 use crate::tree::Tree;
-use crate::values::may_be_text;
+use configfs_rows::{Nqn, may_be_text};
 use std::alloc::Global;
 
 impl FolderEdit {

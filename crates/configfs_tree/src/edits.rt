@@ -3,7 +3,7 @@ ghost use Rattle.configfs_tree.specs.Outcome.{nothing, touching, namespace_chang
 ghost use Rattle.configfs_tree.specs.Asked.{fits};
 ghost use Rattle.configfs_tree.specs.Errnos.{name_of};
 
-use crate::nqn::Nqn;
+use configfs_rows::Nqn;
 use mem_bdev::Name;
 
 /// A folder of the tree, by the names on its path.

@@ -3,9 +3,8 @@ ghost use Rattle.configfs_tree.specs.Gives.{Gives, GivesErrno};
 ghost use Rattle.configfs_tree.specs.Table.{mkdir_host, rmdir_host};
 
 use crate::edits::{Change, Errno, Refused, Touched};
-use crate::limits::MAX_HOSTS;
-use crate::nqn::Nqn;
 use crate::tree::Tree;
+use configfs_rows::{MAX_HOSTS, Nqn};
 
 impl Tree {
     #[tactic(auto, unfolding(crate::specs::Table::mkdir_host, crate::specs::Outcome::first_of))]

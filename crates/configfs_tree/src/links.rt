@@ -4,8 +4,8 @@ ghost use Rattle.configfs_tree.specs.Asked.{subsystem_place_taken, port_place_ta
 ghost use Rattle.configfs_tree.specs.Standing.{IsStanding};
 ghost use Rattle.configfs_tree.specs.Links.{subsystem_row, port_row, with_allowed, with_link, admits, links_it};
 
-use crate::nqn::Nqn;
 use crate::tree::Tree;
+use configfs_rows::Nqn;
 use std::alloc::AllocError;
 
 impl Tree {

@@ -6,15 +6,13 @@ ghost use Rattle.configfs_tree.specs.Phases.{phase_at};
 ghost use Rattle.configfs_tree.specs.Standing.{IsStanding};
 ghost use Rattle.configfs_tree.specs.Table.{mkdir_namespace, rmdir_namespace, set_device_path, set_device_uuid, set_device_nguid, set_ana_grpid, set_enable};
 ghost use Rattle.configfs_tree.specs.Told.{Tells};
-ghost use Rattle.configfs_tree.specs.Values.{is_text};
+ghost use Rattle.configfs_rows.specs.Values.{is_text};
 
-use crate::disks::Holder;
 use crate::edits::{Change, Errno, Refused, Touched};
-use crate::limits::MAX_NSID;
-use crate::namespaces::{NamespacePut, Phase};
-use crate::nqn::Nqn;
 use crate::tree::{Tree, raised};
-use crate::values::{group_number, may_be_path, parsed_uuid, stands};
+use configfs_rows::{
+    Holder, MAX_NSID, NamespacePut, Nqn, Phase, group_number, may_be_path, parsed_uuid, stands,
+};
 use mem_bdev::Name;
 use std::alloc::Global;
 

@@ -3,10 +3,11 @@ ghost use Rattle.configfs_tree.specs.Gives.{Gives, GivesErrno};
 ghost use Rattle.configfs_tree.specs.Table.{mkdir_port, rmdir_port, mkdir_ana_group, rmdir_ana_group, set_address, set_addr_trtype, set_addr_adrfam, set_addr_treq, set_addr_traddr, set_addr_trsvcid, set_ana_state};
 
 use crate::edits::{Change, Errno, Refused, Touched};
-use crate::limits::{MAX_ANA_GROUPS, MAX_PORTS, TRADDR_LEN, TRSVCID_LEN};
-use crate::ports::{Address, AnaState, PortRow};
 use crate::tree::{Tree, raised};
-use crate::values::{is_adrfam, is_treq, is_trtype};
+use configfs_rows::{
+    Address, AnaState, MAX_ANA_GROUPS, MAX_PORTS, PortRow, TRADDR_LEN, TRSVCID_LEN, is_adrfam,
+    is_treq, is_trtype,
+};
 use mem_bdev::Name;
 use std::alloc::Global;
 

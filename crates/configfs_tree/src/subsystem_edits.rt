@@ -3,10 +3,8 @@ ghost use Rattle.configfs_tree.specs.Gives.{Gives, GivesErrno};
 ghost use Rattle.configfs_tree.specs.Table.{mkdir_subsystem, rmdir_subsystem, set_attr_allow_any_host, set_attr_serial, set_attr_model};
 
 use crate::edits::{Change, Errno, Refused, Touched};
-use crate::limits::{MAX_SUBSYSTEMS, MODEL_LEN, SERIAL_LEN};
-use crate::nqn::Nqn;
-use crate::subsystems::{SubsystemPut, SubsystemRow};
 use crate::tree::Tree;
+use configfs_rows::{MAX_SUBSYSTEMS, MODEL_LEN, Nqn, SERIAL_LEN, SubsystemPut, SubsystemRow};
 use mem_bdev::Name;
 use std::alloc::Global;
 

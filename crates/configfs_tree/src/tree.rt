@@ -2,19 +2,16 @@ ghost use Rattle.std.specs.Prelude.{◌≡◌, ◌||◌, ◌+◌, ◌-◌, ◌^�
 ghost use Rattle.std.specs.List.{slice_get};
 ghost use Rattle.std.specs.FinMap as maps;
 ghost use Rattle.configfs_tree.specs.Asked.{subsystem_place_taken, port_place_taken};
-ghost use Rattle.configfs_tree.specs.Holders.{holds_path};
+ghost use Rattle.configfs_rows.specs.Holders.{holds_path};
 ghost use Rattle.configfs_tree.specs.Links.{subsystem_row, port_row, subsystem_place, port_place, place_named, one_more, with_attached, with_no_changes};
 ghost use Rattle.configfs_tree.specs.Phases.{phase_at};
 ghost use Rattle.configfs_tree.specs.Standing.{IsStanding};
 ghost use Rattle.configfs_tree.specs.Start.{empty_tree, free_disk};
 
-use crate::disks::{DiskRow, Disks};
-use crate::limits::{MAX_PORTS, MAX_SUBSYSTEMS};
-use crate::names::Names;
-use crate::namespaces::{NamespaceRow, Phase};
-use crate::nqn::Nqn;
-use crate::ports::{PortRow, Ports};
-use crate::subsystems::{SubsystemRow, Subsystems};
+use configfs_rows::{
+    DiskRow, Disks, MAX_PORTS, MAX_SUBSYSTEMS, Names, NamespaceRow, Nqn, Phase, PortRow, Ports,
+    SubsystemRow, Subsystems,
+};
 use mem_bdev::{DiskLine, Name};
 use std::alloc::{AllocError, Global};
 

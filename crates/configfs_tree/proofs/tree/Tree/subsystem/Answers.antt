@@ -1,7 +1,7 @@
 use Rattle.std.proofs.Common.{◌==◌, sym}
 use Rattle.std.specs.FinMap as maps
-use Rattle.configfs_tree.specs.declared.subsystems.SubsystemRow.{SubsystemRow}
-use Rattle.configfs_tree.proofs.Scans.{clash, none_passes}
+use Rattle.configfs_rows.specs.declared.subsystems.SubsystemRow.{SubsystemRow}
+use Rattle.configfs_rows.proofs.Scans.{clash, none_passes}
 use Rattle.configfs_tree.proofs.tree.Tree.subsystem.Goals as goal
 
 pub unreachable-requires : goal.unreachable-requires
