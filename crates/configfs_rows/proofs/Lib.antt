@@ -5,3 +5,4 @@ pub mod Placing
 pub mod Scans
 pub mod Seen
 pub mod Texts
+pub mod Each

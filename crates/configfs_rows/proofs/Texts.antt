@@ -1,9 +1,9 @@
 -- Texts of attributes: a value is ASCII, and a decimal number of more than three digits is above 128.
-use Rattle.std.proofs.Common.{◌≡◌, ℕ, zero, suc, ◌+◌, ◌-◌, ◌*◌, ◌<◌, ◌≤◌, ◌&&◌, not, Bool, true, false, cond, List, [], ◌∷◌, length, Option, Some, None, nat_lt, nat_le, refl, sym, ap, arith, ◌==◌}
+use Rattle.std.proofs.Common.{◌≡◌, ℕ, zero, suc, ◌+◌, ◌-◌, ◌*◌, ◌<◌, ◌≤◌, ◌&&◌, not, Bool, true, false, cond, List, [], ◌∷◌, length, Option, Some, None, nat_lt, nat_le, refl, sym, ap, subst, arith, ◌==◌}
 use Rattle.std.proofs.lemmas.Grind.{common_steps}
 use Rattle.std.specs.List.{list_all}
 use Rattle.std.specs.Str.{IsAscii}
-use Rattle.std.proofs.lemmas.Bool.{ltb-true, lt-leb}
+use Rattle.std.proofs.lemmas.Bool.{ltb-true, leb-true, lt-leb}
 use Rattle.configfs_rows.specs.Values.{is_text, is_text_byte, is_digit, is_decimal, decimal_value, group_named}
 use Rattle.configfs_rows.specs.declared.limits.TheConstants.{MAX_ANA_GROUPS}
 
@@ -64,3 +64,18 @@ long_names_none (a ∷ b ∷ c ∷ d ∷ rest) lt =
     let more : (((0 * 10 + (a - 48)) * 10 + (b - 48)) * 10 + (c - 48)) * 10 + (d - 48) ≤ decimal_value 0 value = value_le ((((0 * 10 + (a - 48)) * 10 + (b - 48)) * 10 + (c - 48)) * 10 + (d - 48)) rest in
     let above : MAX_ANA_GROUPS < decimal_value 0 value = omega arith in
     lt-leb (decimal_value 0 value) MAX_ANA_GROUPS above)
+
+named_low : (d : Bool) (n most g : ℕ) → cond (d && nat_lt 0 n && nat_le n most) (Some n) None ≡ Some g → (0 < g) × (g ≤ most)
+named_low true n most g e = named_in (nat_lt 0 n) (nat_le n most) refl refl e where
+  named_in : (a b : Bool) → nat_lt 0 n ≡ a → nat_le n most ≡ b → cond (a && b) (Some n) None ≡ Some g → (0 < g) × (g ≤ most)
+  named_in true true low high e =
+      let same : n ≡ g = cc in
+      (subst (λ (m : ℕ). 0 < m) same (ltb-true 0 n low), subst (λ (m : ℕ). m ≤ most) same (leb-true n most high))
+  named_in true false low high e = cc
+  named_in false b low high e = cc
+named_low false n most g e = cc
+
+-- a group that a text names is from 1 to 128
+pub group_in_range : (value : List ℕ) (g : ℕ) → group_named value ≡ Some g → (0 < g) × (g ≤ MAX_ANA_GROUPS)
+unfolding group_named
+group_in_range value g e = named_low (is_decimal value) (decimal_value 0 value) MAX_ANA_GROUPS g e

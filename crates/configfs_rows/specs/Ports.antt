@@ -1,9 +1,9 @@
 -- A port as it is made, and after one of its addresses, links or ANA groups changed.
-use Rattle.std.specs.Prelude.{ℕ, List, [], codes, Bool}
+use Rattle.std.specs.Prelude.{ℕ, List, [], codes, Bool, false, Option, Some, None}
 use Rattle.std.specs.FinMap as map
 use Rattle.configfs_rows.specs.Maps.{kept_or_taken}
-use Rattle.configfs_rows.specs.declared.ports.AnaState.{AnaState}
-use Rattle.configfs_rows.specs.declared.ports.AnaState.TheVariants as state
+use Rattle.sqe_cqe.specs.declared.rows.Ana.{Ana}
+use Rattle.sqe_cqe.specs.declared.rows.Ana.TheVariants as state
 use Rattle.configfs_rows.specs.declared.ports.PortRow.{PortRow}
 use Rattle.configfs_rows.specs.declared.ports.Address.{Address}
 use Rattle.configfs_rows.specs.declared.ports.Address.TheVariants as address
@@ -41,7 +41,12 @@ with_address address.Treq value p = record p { treq = value }
 abbrev pub put_link : List ℕ → Bool → PortRow → PortRow
 put_link nqn linked p = record p { links = kept_or_taken p.links nqn linked }
 
-abbrev pub put_group : ℕ → AnaState → PortRow → PortRow
+-- the group is made on a port that is there
+abbrev pub has_group : Option PortRow → ℕ → Bool
+has_group None group = false
+has_group (Some p) group = map.contains_key p.groups group
+
+abbrev pub put_group : ℕ → Ana → PortRow → PortRow
 put_group group state p = record p { groups = map.insert p.groups group state }
 
 abbrev pub remove_group : ℕ → PortRow → PortRow

@@ -1,10 +1,10 @@
 -- What the texts of attributes mean.
-use Rattle.std.specs.Prelude.{ℕ, ◌+◌, ◌*◌, ◌-◌, ◌==◌, ◌&&◌, not, nat_lt, nat_le, Bool, true, false, List, [], ◌∷◌, length, Option, Some, None, slice_index, codes, if◌then◌else◌}
+use Rattle.std.specs.Prelude.{ℕ, ◌+◌, ◌*◌, ◌-◌, ◌==◌, ◌&&◌, ◌||◌, not, nat_lt, nat_le, Bool, true, false, List, [], ◌∷◌, length, Option, Some, None, slice_index, codes, if◌then◌else◌}
 use Rattle.std.specs.List.{list_any, list_all}
 use Rattle.std.specs.Str.{bytes_eq}
 use Rattle.configfs_rows.specs.declared.limits.TheConstants.{PATH_LEN, MAX_ANA_GROUPS}
-use Rattle.configfs_rows.specs.declared.ports.AnaState.{AnaState}
-use Rattle.configfs_rows.specs.declared.ports.AnaState.TheVariants as state
+use Rattle.sqe_cqe.specs.declared.rows.Ana.{Ana}
+use Rattle.sqe_cqe.specs.Anas.{ana_number}
 
 -- a printable character or a space
 abbrev pub is_text_byte : ℕ → Bool
@@ -25,6 +25,21 @@ has_path (Some path) value = bytes_eq path value
 abbrev pub one_of : List ℕ → List (List ℕ) → Bool
 one_of value texts = list_any (bytes_eq value) texts
 
+-- the words of a port's addresses
+abbrev pub is_trtype : List ℕ → Bool
+is_trtype value = one_of value (codes "loop" ∷ codes "tcp" ∷ codes "rdma" ∷ codes "fc" ∷ [])
+
+abbrev pub is_adrfam : List ℕ → Bool
+is_adrfam value = (length value == 0)
+    || one_of value (codes "ipv4" ∷ codes "ipv6" ∷ codes "ib" ∷ codes "fc" ∷ codes "loop" ∷ codes "pcie" ∷ [])
+
+abbrev pub is_treq : List ℕ → Bool
+is_treq value = one_of value (codes "not specified" ∷ codes "required" ∷ codes "not required" ∷ [])
+
+-- a text of at most so many bytes
+abbrev pub is_short : List ℕ → ℕ → Bool
+is_short value most = is_text value && nat_le (length value) most
+
 -- a decimal number: digits alone, the first of them not 0
 abbrev pub is_digit : ℕ → Bool
 is_digit b = nat_lt 47 b && nat_lt b 58
@@ -44,27 +59,10 @@ group_named value =
     then Some (decimal_value 0 value)
     else None
 
--- the number of a state in the ANA log page
-abbrev pub state_number : AnaState → ℕ
-state_number state.Optimized = 1
-state_number state.NonOptimized = 2
-state_number state.Inaccessible = 3
-state_number state.PersistentLoss = 4
-state_number state.Changing = 15
-
-abbrev pub same_state : AnaState → AnaState → Bool
-same_state a b = state_number a == state_number b
+-- two states are one
+abbrev pub same_state : Ana → Ana → Bool
+same_state a b = ana_number a == ana_number b
 
 abbrev pub same_bool : Bool → Bool → Bool
 same_bool true b = b
 same_bool false b = not b
-
--- the state that a text names
-abbrev pub state_named : List ℕ → Option AnaState
-state_named value =
-    if bytes_eq value (codes "optimized") then Some state.Optimized
-    else (if bytes_eq value (codes "non-optimized") then Some state.NonOptimized
-    else (if bytes_eq value (codes "inaccessible") then Some state.Inaccessible
-    else (if bytes_eq value (codes "persistent-loss") then Some state.PersistentLoss
-    else (if bytes_eq value (codes "change") then Some state.Changing
-    else None))))

@@ -1,8 +1,10 @@
-ghost use Rattle.std.specs.Prelude.{◌≡◌, ℕ, List, is_some};
+ghost use Rattle.std.specs.Prelude.{◌≡◌, ◌≤◌, ◌<◌, ℕ, List, is_some, length, IfSome};
+ghost use Rattle.std.specs.List.{slice_get};
 ghost use Rattle.std.specs.Str.{bytes_eq};
 ghost use Rattle.std.specs.Option.{option_copied};
-ghost use Rattle.configfs_rows.specs.Holders.{disk_of, holder_of, hold, holds_path, has_disk, is_held};
+ghost use Rattle.configfs_rows.specs.Holders.{disk_of, holder_of, hold, holds_path, has_disk, is_held, number_of, paths_of};
 
+use crate::limits::MAX_DISKS;
 use mem_bdev::Name;
 use std::marker::Model;
 
@@ -21,24 +23,28 @@ pub struct DiskRow {
     pub holder: Option<Holder>,
 }
 
-/// The disks in the plan's order, at most 64, found by a scan. Contracts see the list.
+/// The disks in the plan's order, at most 64, numbered from 0. Contracts see the list.
 #[derive(Debug, Drop)]
 pub struct Disks {
     rows: Vec<DiskRow>,
 }
 
 impl Model for Disks {
-    ghost use Rattle.std.specs.Prelude.{List};
+    ghost use Rattle.std.specs.Prelude.{List, length, ◌≤◌};
+    ghost use Rattle.configfs_rows.specs.declared.limits.TheConstants.{MAX_DISKS};
     ghost use Rattle.configfs_rows.specs.declared.disks.DiskRow.{DiskRow};
 
     ghost Value = { List DiskRow };
 
     ghost view = { λ d. d.rows.items };
+
+    ghost invariant = { λ d. length d.rows.items ≤ MAX_DISKS };
 }
 
 impl Disks {
-    // These disks.
+    /// These disks.
     pub fn from_vec(rows: Vec<DiskRow>) -> Self
+        requires { length rows.items ≤ MAX_DISKS }
         ensures { result ≡ rows.items }
     {
         Disks { rows }
@@ -77,7 +83,32 @@ impl Disks {
         }
     }
 
-    // Gives the disk of a path another holder.
+    /// How many disks there are.
+    pub fn len(&self) -> usize
+        ensures { result ≡ length self.now }
+    {
+        self.rows.len()
+    }
+
+    /// The disk with this number, with its path and its holder; `None` exactly where there are
+    /// not more than so many.
+    pub fn get(&self, number: u8) -> Option<&DiskRow>
+        ensures { option_copied result ≡ slice_get self.now number }
+    {
+        self.rows.get(number as usize)
+    }
+
+    /// The number of the disk of a path; `None` exactly where the path names no disk.
+    pub fn number(&self, path: &[u8]) -> Option<u8>
+        ensures { result ≡ number_of path.now (paths_of self.now) }
+    {
+        match found_number(&self.rows, path) {
+            None => None,
+            Some(number) => Some(number as u8),
+        }
+    }
+
+    /// Gives the disk of a path another holder, or none.
     pub fn hold(&mut self, path: &[u8], h: Option<Holder>)
         ensures { self.new ≡ hold path.now h self.old }
     {
@@ -104,6 +135,25 @@ fn found_holder(rows: &[DiskRow], path: &[u8]) -> Option<Holder>
                 d.holder
             } else {
                 found_holder(rest, path)
+            }
+        }
+    }
+}
+
+fn found_number(rows: &[DiskRow], path: &[u8]) -> Option<usize>
+    ensures is { result ≡ number_of path.now (paths_of rows.now) }
+    ensures below { IfSome result (λ n. n < length rows.now) }
+{
+    match rows {
+        [] => None,
+        [d, rest @ ..] => {
+            if d.path.as_bytes() == path {
+                Some(0)
+            } else {
+                match found_number(rest, path) {
+                    Some(n) => Some(n + 1),
+                    None => None,
+                }
             }
         }
     }

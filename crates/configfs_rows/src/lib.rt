@@ -18,13 +18,13 @@ mod values;
 
 pub use disks::{DiskRow, Disks, Holder};
 pub use limits::{
-    MAX_ANA_GROUPS, MAX_HOSTS, MAX_NSID, MAX_PORTS, MAX_SUBSYSTEMS, MODEL_LEN, NQN_LEN, PATH_LEN,
-    SERIAL_LEN, TRADDR_LEN, TRSVCID_LEN,
+    MAX_ANA_GROUPS, MAX_DISKS, MAX_HOSTS, MAX_NSID, MAX_PORTS, MAX_SUBSYSTEMS, MODEL_LEN, NQN_LEN,
+    PATH_LEN, SERIAL_LEN, TRADDR_LEN, TRSVCID_LEN,
 };
 pub use names::Names;
 pub use namespaces::{NamespacePut, NamespaceRow, Namespaces, Phase};
 pub use nqn::Nqn;
-pub use ports::{Address, AnaState, Groups, PortRow, Ports};
+pub use ports::{Address, Groups, PortRow, Ports};
 pub use subsystems::{SubsystemPut, SubsystemRow, Subsystems};
 pub use values::{
     group_number, is_adrfam, is_treq, is_trtype, may_be_path, may_be_text, parsed_uuid, stands,

@@ -22,6 +22,9 @@ pub const SERIAL_LEN: usize = 20;
 /// The most bytes of a model number: the length of its field in Identify Controller.
 pub const MODEL_LEN: usize = 40;
 
+/// The most disks of a plan. Numbers of disks are below it.
+pub const MAX_DISKS: usize = 64;
+
 /// The most bytes of a device path.
 pub const PATH_LEN: usize = 255;
 

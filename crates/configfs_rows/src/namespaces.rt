@@ -10,12 +10,14 @@ use std::alloc::{AllocError, Global};
 use std::collections::BTreeMap;
 use std::marker::Model;
 
-/// A namespace with its attributes: the path of its disk (unset at first), its UUID and NGUID
+/// A namespace with its attributes: the path of its disk (unset at first) with the number of the
+/// disk that it names (from 0 in the plan's order, if it names one), its UUID and NGUID
 /// (16 zero bytes at first), its ANA group (1 at first), and whether it is enabled. A namespace
 /// that isn't enabled and still holds the disk of its path is draining.
 #[derive(Debug, Drop)]
 pub struct NamespaceRow {
     pub device_path: Option<Name>,
+    pub disk: Option<u8>,
     pub uuid: [u8; 16],
     pub nguid: [u8; 16],
     pub group: u8,
@@ -34,7 +36,8 @@ pub enum Phase {
 /// A new value of an attribute of a namespace.
 #[derive(Debug, Drop)]
 pub enum NamespacePut {
-    Path(Name),
+    /// A path, with the number of the disk that it names.
+    Path(Name, Option<u8>),
     Uuid([u8; 16]),
     Nguid([u8; 16]),
     Group(u8),
@@ -48,6 +51,7 @@ impl NamespaceRow {
     {
         NamespaceRow {
             device_path: None,
+            disk: None,
             uuid: [0; 16],
             nguid: [0; 16],
             group: 1,
@@ -60,7 +64,10 @@ impl NamespaceRow {
         ensures { self.new ≡ put_in put self.old }
     {
         match put {
-            NamespacePut::Path(path) => self.device_path = Some(path),
+            NamespacePut::Path(path, disk) => {
+                self.device_path = Some(path);
+                self.disk = disk;
+            }
             NamespacePut::Uuid(uuid) => self.uuid = uuid,
             NamespacePut::Nguid(nguid) => self.nguid = nguid,
             NamespacePut::Group(group) => self.group = group,

@@ -18,14 +18,15 @@ pub struct Nqn {
 }
 
 impl Model for Nqn {
-    ghost use Rattle.std.specs.Prelude.{ℕ, List, take, ◌≤◌};
+    ghost use Rattle.std.specs.Prelude.{ℕ, List, take, ◌≤◌, IsTrue};
+    ghost use Rattle.configfs_rows.specs.Nqns.{is_nqn};
     ghost use Rattle.configfs_rows.specs.declared.limits.TheConstants.{NQN_LEN};
 
     ghost Value = { List ℕ };
 
     ghost view = { λ n. take n.len n.bytes };
 
-    ghost invariant = { λ n. n.len ≤ NQN_LEN };
+    ghost invariant = { λ n. (n.len ≤ NQN_LEN) × IsTrue (is_nqn (take n.len n.bytes)) };
 }
 
 // Copies bytes to the front of an array.
@@ -42,7 +43,7 @@ fn front(bytes: &[u8]) -> [u8; NQN_LEN]
 fn all_name_bytes(bytes: &[u8]) -> bool
     ensures { result ≡ list_all is_name_byte bytes.now }
 {
-    bytes.iter().all(|b| *b > 32 && *b < 127 && *b != 47)
+    bytes.iter().all(|b| *b > b' ' && *b <= b'~' && *b != b'/')
 }
 
 // Whether bytes are an NQN.
@@ -91,6 +92,13 @@ impl Nqn {
         ensures { result.now ≡ self.now }
     {
         &self.bytes[..self.len]
+    }
+
+    /// Says that the name is an NQN, and does nothing.
+    pub fn certify(&self)
+        ensures { IsTrue (is_nqn self.now) }
+    {
+        let _bytes = &self.bytes;
     }
 
     /// A copy, without memory.

@@ -1,81 +1,34 @@
-ghost use Rattle.std.specs.Prelude.{◌≡◌, ◌==◌, ◌||◌, nat_lt, false, OnOk, OnErr, IsOk, IfOk, option_copied};
+ghost use Rattle.std.specs.Prelude.{◌≡◌, ◌==◌, ◌||◌, nat_lt, false, OnOk, OnErr, IsOk, IfOk, IsTrue, option_copied};
 ghost use Rattle.std.specs.List.{list_any, find, slice_get};
 ghost use Rattle.configfs_rows.specs.Maps.{update_at};
 ghost use Rattle.configfs_rows.specs.Places.{lowest_free};
-ghost use Rattle.configfs_rows.specs.Ports.{fresh_port, address_of, with_address, put_group, remove_group, put_link};
-ghost use Rattle.configfs_rows.specs.Values.{state_number, state_named};
+ghost use Rattle.configfs_rows.specs.Ports.{fresh_port, has_group, address_of, with_address, put_group, remove_group, put_link};
 ghost use Rattle.std.specs.FinMap as map;
 
 use crate::limits::MAX_PORTS;
 use crate::names::Names;
 use crate::nqn::Nqn;
 use mem_bdev::Name;
+use sqe_cqe::Ana;
 use std::alloc::{AllocError, Global};
 use std::collections::BTreeMap;
 use std::marker::Model;
-
-/// The state of an ANA group (NVMe Base 2.0, 8.1.1): `Changing` is the state ANA Change.
-#[derive(Clone, Copy, Debug, PartialEq, Eq)]
-pub enum AnaState {
-    Optimized,
-    NonOptimized,
-    Inaccessible,
-    PersistentLoss,
-    Changing,
-}
-
-impl AnaState {
-    /// The number of the state in the ANA log page (NVMe Base 2.0, 5.16.1.13).
-    pub fn number(self) -> u8
-        ensures { result ≡ state_number self }
-    {
-        match self {
-            AnaState::Optimized => 1,
-            AnaState::NonOptimized => 2,
-            AnaState::Inaccessible => 3,
-            AnaState::PersistentLoss => 4,
-            AnaState::Changing => 15,
-        }
-    }
-
-    /// The state that a text names in configfs, or `None` where it names none.
-    pub fn named(value: &[u8]) -> Option<AnaState>
-        ensures { result ≡ state_named value.now }
-    {
-        if value == b"optimized".as_slice() {
-            return Some(AnaState::Optimized);
-        }
-        if value == b"non-optimized".as_slice() {
-            return Some(AnaState::NonOptimized);
-        }
-        if value == b"inaccessible".as_slice() {
-            return Some(AnaState::Inaccessible);
-        }
-        if value == b"persistent-loss".as_slice() {
-            return Some(AnaState::PersistentLoss);
-        }
-        if value == b"change".as_slice() {
-            return Some(AnaState::Changing);
-        }
-        None
-    }
-}
 
 /// The ANA groups of a port that are made, with their states. Contracts see a finite map. A
 /// group that isn't made is inaccessible.
 #[derive(Drop)]
 pub struct Groups {
-    rows: BTreeMap<u32, AnaState>,
+    rows: BTreeMap<u32, Ana>,
 }
 
 impl Model for Groups {
     ghost use Rattle.std.specs.Ordering.{nat_cmp};
     ghost use Rattle.std.specs.FinMap as map;
     ghost use Rattle.std.specs.Coded.{coded_ℕ};
-    ghost use Rattle.configfs_rows.specs.declared.ports.AnaState.{AnaState};
-    ghost use Rattle.configfs_rows.specs.contracts.ports.AnaState as state;
+    ghost use Rattle.sqe_cqe.specs.declared.rows.Ana.{Ana};
+    ghost use Rattle.sqe_cqe.specs.contracts.rows.Ana as state;
 
-    ghost Value = { map.FinMap nat_cmp AnaState };
+    ghost Value = { map.FinMap nat_cmp Ana };
 
     ghost coded = { map.code coded_ℕ state.the_row.coded };
 
@@ -100,17 +53,23 @@ impl Groups {
     }
 
     /// The state of a group that is made.
-    pub fn get(&self, group: u32) -> Option<AnaState>
+    pub fn get(&self, group: u32) -> Option<Ana>
         ensures { result ≡ map.get self.now group }
     {
         self.rows.get(&group).copied()
     }
 
-    // Gives a group a state. On want of memory all is as before.
-    pub fn put(&mut self, group: u32, state: AnaState) -> Result<(), AllocError>
+    /// Gives a group a state. On want of memory all is as before. Where the group is made, this
+    /// takes no memory and answers Ok.
+    pub fn put(&mut self, group: u32, state: Ana) -> Result<(), AllocError>
         ensures ok { OnOk result (self.new ≡ map.insert self.old group state) }
         ensures err { OnErr result (self.new ≡ self.old) }
+        ensures made { IsTrue (map.contains_key self.old group) → IsOk result }
     {
+        if let Some(row) = self.rows.get_mut(&group) {
+            *row = state;
+            return Ok(());
+        }
         self.rows.insert(group, state)?;
         Ok(())
     }
@@ -175,7 +134,7 @@ impl PortRow {
     {
         let treq = Name::copied(alloc, b"not specified")?;
         let mut groups = Groups::new(alloc);
-        groups.put(1, AnaState::Optimized)?;
+        groups.put(1, Ana::Optimized)?;
         Ok(PortRow {
             id,
             at,
@@ -294,9 +253,10 @@ impl Ports {
     }
 
     // Gives a group of a port a state. On want of memory all is as before.
-    pub fn put_group(&mut self, id: u16, group: u32, state: AnaState) -> Result<(), AllocError>
+    pub fn put_group(&mut self, id: u16, group: u32, state: Ana) -> Result<(), AllocError>
         ensures ok { OnOk result (self.new ≡ update_at self.old id (put_group group state)) }
         ensures err { OnErr result (self.new ≡ self.old) }
+        ensures made { IsTrue (has_group (map.get self.old id) group) → IsOk result }
     {
         let Some(row) = self.rows.get_mut(&id) else {
             return Ok(());

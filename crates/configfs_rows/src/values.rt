@@ -1,8 +1,8 @@
 // Tests of the texts that edits write into attributes.
-ghost use Rattle.std.specs.Prelude.{◌≡◌, ◌==◌, ◌||◌, ◌+◌, ◌-◌, ◌*◌, ◌<◌, ◌≤◌, not, [], ◌∷◌, codes, length, slice_index, IsTrue};
+ghost use Rattle.std.specs.Prelude.{◌≡◌, ◌==◌, ◌+◌, ◌-◌, ◌*◌, ◌<◌, ◌≤◌, not, length, slice_index, IsTrue};
 ghost use Rattle.std.specs.List.{list_all};
 ghost use Rattle.configfs_rows.specs.Values.{has_path};
-ghost use Rattle.configfs_rows.specs.Values.{is_text, is_path, is_digit, decimal_value, group_named, one_of};
+ghost use Rattle.configfs_rows.specs.Values.{is_text, is_path, is_digit, decimal_value, group_named, is_trtype, is_adrfam, is_treq};
 ghost use Rattle.uuid.specs.Text.{parsed};
 
 use crate::limits::{MAX_ANA_GROUPS, PATH_LEN};
@@ -102,7 +102,7 @@ pub fn group_number(value: &[u8]) -> Option<u8>
 
 // Whether a text names a transport type.
 pub fn is_trtype(value: &[u8]) -> bool
-    ensures { result ≡ one_of value.now (codes "loop" ∷ codes "tcp" ∷ codes "rdma" ∷ codes "fc" ∷ []) }
+    ensures { result ≡ is_trtype value.now }
 {
     value == b"loop".as_slice()
         || value == b"tcp".as_slice()
@@ -112,7 +112,7 @@ pub fn is_trtype(value: &[u8]) -> bool
 
 // Whether a text names an address family, or is empty.
 pub fn is_adrfam(value: &[u8]) -> bool
-    ensures { result ≡ ((length value.now == 0) || one_of value.now (codes "ipv4" ∷ codes "ipv6" ∷ codes "ib" ∷ codes "fc" ∷ codes "loop" ∷ codes "pcie" ∷ [])) }
+    ensures { result ≡ is_adrfam value.now }
 {
     value.is_empty()
         || value == b"ipv4".as_slice()
@@ -125,7 +125,7 @@ pub fn is_adrfam(value: &[u8]) -> bool
 
 // Whether a text says if secure channels are required.
 pub fn is_treq(value: &[u8]) -> bool
-    ensures { result ≡ one_of value.now (codes "not specified" ∷ codes "required" ∷ codes "not required" ∷ []) }
+    ensures { result ≡ is_treq value.now }
 {
     value == b"not specified".as_slice()
         || value == b"required".as_slice()

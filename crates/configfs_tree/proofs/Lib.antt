@@ -2,6 +2,10 @@ pub mod Held
 pub mod Holds
 pub mod Kept
 pub mod KeptTable
+pub mod Positions
 pub mod Slots
+pub mod SoundTable
+pub mod Stands
+pub mod StaysTable
 pub mod Tells
 pub mod TellsTable

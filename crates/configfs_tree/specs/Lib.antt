@@ -5,7 +5,9 @@ pub mod Gives
 pub mod Links
 pub mod Outcome
 pub mod Phases
+pub mod Sound
 pub mod Standing
 pub mod Start
+pub mod Stays
 pub mod Table
 pub mod Told

@@ -10,6 +10,7 @@
 #![tactic(auto)]
 
 mod apply;
+mod configuration;
 mod edits;
 mod host_edits;
 mod laws;
@@ -24,11 +25,12 @@ mod tests;
 mod tree;
 
 pub use configfs_rows::{
-    Address, AnaState, DiskRow, Disks, Groups, Holder, MAX_ANA_GROUPS, MAX_HOSTS, MAX_NSID,
+    Address, DiskRow, Disks, Groups, Holder, MAX_ANA_GROUPS, MAX_DISKS, MAX_HOSTS, MAX_NSID,
     MAX_PORTS, MAX_SUBSYSTEMS, MODEL_LEN, NQN_LEN, Names, NamespaceRow, Namespaces, Nqn, PATH_LEN,
     Phase, PortRow, Ports, SERIAL_LEN, SubsystemRow, Subsystems, TRADDR_LEN, TRSVCID_LEN,
 };
+pub use configuration::{Attached, Configuration, Settings, may_be_disks};
 pub use edits::{Attr, Change, Errno, Folder, FolderEdit, Refused, Touched};
-pub use laws::held_means_another;
+pub use laws::{held_means_another, live_holds_disk, port_positions, subsystem_positions};
 pub use links::{admits_host, serves};
-pub use tree::{Attached, Settings, Tree};
+pub use tree::Tree;
