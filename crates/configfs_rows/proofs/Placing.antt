@@ -12,7 +12,7 @@ use Rattle.std.specs.Cmp.{IsTotalOrder}
 use Rattle.std.specs.FinMap as maps
 use Rattle.std.specs.FinMap.{FinMap, IsAntisymmetric, find}
 use Rattle.configfs_rows.specs.Maps.{update_at}
-use Rattle.configfs_rows.specs.Places.{lowest_free}
+use Rattle.configfs_rows.specs.Places.{lowest_free, LowestIsFree}
 use Rattle.configfs_rows.specs.Places.{HasPlaces}
 use Rattle.configfs_rows.proofs.Gets.{some_same, none_some, cases_key, get-insert_at, get-insert_beside, get-remove_at, get-remove_beside, was_at}
 
@@ -64,6 +64,40 @@ free_or_full (suc more) from taken = ⊎_elim
     (λ e. ⊎_elim (λ h. inl (free_later more from taken e h)) (λ h. inr (all_later more from taken e h)) (free_or_full more (from + 1) taken))
     (λ e. inl (free_here more from taken e))
     (cases_Bool (taken from))
+
+-- the positions below it are taken
+lower_at : (more from j : ℕ) (taken : ℕ → Bool) (b : Bool) → taken from ≡ b → from ≤ j → j < lowest_free (suc more) from taken → (from + 1 ≤ j → j < lowest_free more (from + 1) taken → taken j ≡ true) → taken j ≡ true
+lower_at more from j taken true e low lt rest =
+    let is : lowest_free (suc more) from taken ≡ lowest_free more (from + 1) taken = step_of more from taken true e in
+    ⊎_elim
+    (λ (here : from ≡ j). subst (λ (n : ℕ). taken n ≡ true) here e)
+    (λ (above : from < j). let low' : from + 1 ≤ j = omega arith in let lt' : j < lowest_free more (from + 1) taken = omega arith in rest low' lt')
+    (later from j low) where
+      later : (a b : ℕ) → a ≤ b → (a ≡ b) ⊎ (a < b)
+      later a b le = grind arith
+lower_at more from j taken false e low lt rest = let is : lowest_free (suc more) from taken ≡ from = step_of more from taken false e in absurd (omega arith)
+
+lower_taken : (more from j : ℕ) (taken : ℕ → Bool) → from ≤ j → j < lowest_free more from taken → taken j ≡ true
+lower_taken zero from j taken low lt = let e : lowest_free 0 from taken ≡ from = none_left from taken in absurd (omega arith)
+lower_taken (suc more) from j taken low lt = lower_at more from j taken (taken from) refl low lt (lower_taken more (from + 1) j taken)
+
+-- and it is free, where it is one of so many
+free_at : (more from : ℕ) (taken : ℕ → Bool) (b : Bool) → taken from ≡ b → lowest_free (suc more) from taken < from + suc more → (lowest_free more (from + 1) taken < from + 1 + more → taken (lowest_free more (from + 1) taken) ≡ false) → taken (lowest_free (suc more) from taken) ≡ false
+free_at more from taken true e lt rest =
+    let is : lowest_free (suc more) from taken ≡ lowest_free more (from + 1) taken = step_of more from taken true e in
+    let lt' : lowest_free more (from + 1) taken < from + 1 + more = omega arith in
+    subst (λ (n : ℕ). taken n ≡ false) (sym is) (rest lt')
+free_at more from taken false e lt rest = subst (λ (n : ℕ). taken n ≡ false) (sym (step_of more from taken false e)) e
+
+lowest_free_is : (more from : ℕ) (taken : ℕ → Bool) → lowest_free more from taken < from + more → taken (lowest_free more from taken) ≡ false
+lowest_free_is zero from taken lt = let e : lowest_free 0 from taken ≡ from = none_left from taken in absurd (omega arith)
+lowest_free_is (suc more) from taken lt = free_at more from taken (taken from) refl lt (lowest_free_is more (from + 1) taken)
+
+pub lowest_is_free : LowestIsFree
+lowest_is_free most taken = (
+  λ j lt. let low : 0 ≤ j = omega arith in lower_taken most 0 j taken low lt,
+  λ low. let low' : lowest_free most 0 taken < 0 + most = omega arith in lowest_free_is most 0 taken low',
+)
 
 -- ---- rows that stand at a position
 any_at : {X : Type 0} (at : X → ℕ) (j : ℕ) (xs : List X) → list_any (nat_eq j) (map at xs) ≡ list_any (λ x. at x == j) xs

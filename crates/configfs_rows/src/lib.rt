@@ -8,6 +8,7 @@
 #![tactic(auto)]
 
 mod disks;
+mod law;
 mod limits;
 mod names;
 mod namespaces;
@@ -17,12 +18,13 @@ mod subsystems;
 mod values;
 
 pub use disks::{DiskRow, Disks, Holder};
+pub use law::lowest_is_free;
 pub use limits::{
-    MAX_ANA_GROUPS, MAX_DISKS, MAX_HOSTS, MAX_NSID, MAX_PORTS, MAX_SUBSYSTEMS, MODEL_LEN, NQN_LEN,
-    PATH_LEN, SERIAL_LEN, TRADDR_LEN, TRSVCID_LEN,
+    MAX_ANA_GROUPS, MAX_CONTROLLERS, MAX_DISKS, MAX_HOSTS, MAX_NSID, MAX_PORTS, MAX_SUBSYSTEMS,
+    MODEL_LEN, NQN_LEN, PATH_LEN, SERIAL_LEN, TRADDR_LEN, TRSVCID_LEN,
 };
 pub use names::Names;
-pub use namespaces::{NamespacePut, NamespaceRow, Namespaces, Phase};
+pub use namespaces::{Identifier, NamespacePut, NamespaceRow, Namespaces, Phase};
 pub use nqn::Nqn;
 pub use ports::{Address, Groups, PortRow, Ports};
 pub use subsystems::{SubsystemPut, SubsystemRow, Subsystems};

@@ -22,6 +22,9 @@ pub const SERIAL_LEN: usize = 20;
 /// The most bytes of a model number: the length of its field in Identify Controller.
 pub const MODEL_LEN: usize = 40;
 
+/// The most controllers at a time. As many may be attached at one position.
+pub const MAX_CONTROLLERS: u8 = 31;
+
 /// The most disks of a plan. Numbers of disks are below it.
 pub const MAX_DISKS: usize = 64;
 

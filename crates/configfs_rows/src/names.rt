@@ -6,6 +6,7 @@ ghost use Rattle.std.specs.FinMap as map;
 use crate::nqn::Nqn;
 use std::alloc::{AllocError, Global};
 use std::collections::BTreeMap;
+use std::collections::btree_map::Keys;
 use std::marker::Model;
 
 /// A set of NQNs: the hosts of a tree, the hosts that a subsystem allows, the subsystems that a
@@ -88,6 +89,13 @@ impl Names {
             left -= 1;
         }
         None
+    }
+
+    /// The names in byte order.
+    pub fn iter(&self) -> Keys<'_, Nqn, ()>
+        ensures { result ≡ map.keys self.now }
+    {
+        self.names.keys()
     }
 
     // Puts a name in, or takes it away. Taking away takes no memory.

@@ -3,11 +3,12 @@ ghost use Rattle.std.specs.Ordering.{nat_cmp};
 ghost use Rattle.std.specs.List.{slice_get};
 ghost use Rattle.std.specs.FinMap as map;
 ghost use Rattle.configfs_rows.specs.Maps.{update_at};
-ghost use Rattle.configfs_rows.specs.Rows.{put_in, fresh_namespace};
+ghost use Rattle.configfs_rows.specs.Rows.{put_in, identifier_of, fresh_namespace};
 
 use mem_bdev::Name;
 use std::alloc::{AllocError, Global};
 use std::collections::BTreeMap;
+use std::collections::btree_map::Iter;
 use std::marker::Model;
 
 /// A namespace with its attributes: the path of its disk (unset at first) with the number of the
@@ -33,13 +34,21 @@ pub enum Phase {
     Draining,
 }
 
+/// An identifier of a namespace, as nvmet's configfs names it.
+#[derive(Clone, Copy, Debug, PartialEq, Eq)]
+pub enum Identifier {
+    /// `device_uuid`
+    Uuid,
+    /// `device_nguid`
+    Nguid,
+}
+
 /// A new value of an attribute of a namespace.
 #[derive(Debug, Drop)]
 pub enum NamespacePut {
     /// A path, with the number of the disk that it names.
     Path(Name, Option<u8>),
-    Uuid([u8; 16]),
-    Nguid([u8; 16]),
+    Identifier(Identifier, [u8; 16]),
     Group(u8),
     Enabled(bool),
 }
@@ -59,6 +68,16 @@ impl NamespaceRow {
         }
     }
 
+    /// One of its identifiers.
+    pub fn identifier(&self, which: Identifier) -> &[u8; 16]
+        ensures { result.now ≡ identifier_of which self.now }
+    {
+        match which {
+            Identifier::Uuid => &self.uuid,
+            Identifier::Nguid => &self.nguid,
+        }
+    }
+
     // Puts a value into its attribute.
     fn put(&mut self, put: NamespacePut)
         ensures { self.new ≡ put_in put self.old }
@@ -68,8 +87,8 @@ impl NamespaceRow {
                 self.device_path = Some(path);
                 self.disk = disk;
             }
-            NamespacePut::Uuid(uuid) => self.uuid = uuid,
-            NamespacePut::Nguid(nguid) => self.nguid = nguid,
+            NamespacePut::Identifier(Identifier::Uuid, uuid) => self.uuid = uuid,
+            NamespacePut::Identifier(Identifier::Nguid, nguid) => self.nguid = nguid,
             NamespacePut::Group(group) => self.group = group,
             NamespacePut::Enabled(enabled) => self.enabled = enabled,
         }
@@ -144,6 +163,13 @@ impl Namespaces {
             return;
         };
         row.put(put);
+    }
+
+    /// The namespaces with their NSIDs, in rising order.
+    pub fn iter(&self) -> Iter<'_, u32, NamespaceRow>
+        ensures { result ≡ map.entries self.now }
+    {
+        self.rows.iter()
     }
 
     /// The NSID with this number, from 0, in rising order; `None`

@@ -12,6 +12,7 @@ use mem_bdev::Name;
 use sqe_cqe::Ana;
 use std::alloc::{AllocError, Global};
 use std::collections::BTreeMap;
+use std::collections::btree_map::{Iter, Values};
 use std::marker::Model;
 
 /// The ANA groups of a port that are made, with their states. Contracts see a finite map. A
@@ -79,6 +80,13 @@ impl Groups {
         ensures { self.new ≡ map.remove self.old group }
     {
         let _ = self.rows.remove(&group);
+    }
+
+    /// The groups that are made with their states, in rising order of identifiers.
+    pub fn iter(&self) -> Iter<'_, u32, Ana>
+        ensures { result ≡ map.entries self.now }
+    {
+        self.rows.iter()
     }
 
     /// The group with this number, from 0, in rising order of identifiers; `None` exactly where
@@ -321,6 +329,13 @@ impl Ports {
             }
         }
         None
+    }
+
+    /// The ports in the order of IDs.
+    pub fn iter(&self) -> Values<'_, u16, PortRow>
+        ensures { result ≡ map.values self.now }
+    {
+        self.rows.values()
     }
 
     /// The port with this number, from 0, in the order of IDs; `None` exactly where there are

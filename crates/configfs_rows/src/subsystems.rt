@@ -13,6 +13,7 @@ use crate::nqn::Nqn;
 use mem_bdev::Name;
 use std::alloc::{AllocError, Global};
 use std::collections::BTreeMap;
+use std::collections::btree_map::Values;
 use std::marker::Model;
 
 /// A subsystem: its NQN, its position (the lowest free one as it was made, kept until it is
@@ -222,6 +223,13 @@ impl Subsystems {
             }
         }
         None
+    }
+
+    /// The subsystems in byte order of NQN.
+    pub fn iter(&self) -> Values<'_, Nqn, SubsystemRow>
+        ensures { result ≡ map.values self.now }
+    {
+        self.rows.values()
     }
 
     /// The subsystem with this number, from 0, in byte order of NQN; `None` exactly where there

@@ -49,7 +49,10 @@ use Rattle.uuid.specs.Text.{parsed}
 use Rattle.sqe_cqe.specs.Anas.{ana_named}
 use Rattle.configfs_rows.specs.Values.{group_named}
 use Rattle.configfs_tree.specs.Asked.{is_busy, path_names_disk, path_is_held, subsystem_place_taken, port_place_taken}
-use Rattle.configfs_rows.specs.declared.namespaces.NamespacePut.TheVariants.{Path, Uuid, Nguid, Group, Enabled}
+use Rattle.configfs_rows.specs.declared.namespaces.NamespacePut.TheVariants.{Path, Identifier as NewIdentifier, Group, Enabled}
+use Rattle.configfs_rows.specs.declared.namespaces.Identifier.{Identifier}
+use Rattle.configfs_rows.specs.declared.namespaces.Identifier.TheVariants.{Uuid, Nguid}
+use Rattle.configfs_rows.specs.Rows.{identifier_of}
 use Rattle.configfs_rows.specs.declared.subsystems.SubsystemPut.{SubsystemPut}
 use Rattle.configfs_rows.specs.declared.subsystems.SubsystemPut.TheVariants.{AllowAnyHost, Serial, ModelName}
 use Rattle.sqe_cqe.specs.declared.rows.Ana.TheVariants as state
@@ -63,7 +66,7 @@ use Rattle.configfs_tree.specs.declared.edits.FolderEdit.{FolderEdit}
 use Rattle.configfs_tree.specs.declared.edits.FolderEdit.TheVariants as edit
 use Rattle.configfs_tree.specs.Table.{mkdir, rmdir, set, set_of_subsystem, set_of_namespace, set_of_port, set_of_group, edit_outcome, put_on, put_group_of, put_state, set_address, disabled, enabled}
 use Rattle.configfs_tree.specs.Table.{mkdir_host, mkdir_subsystem, mkdir_namespace, mkdir_port, mkdir_ana_group, rmdir_host, rmdir_subsystem, rmdir_namespace, rmdir_port, rmdir_ana_group}
-use Rattle.configfs_tree.specs.Table.{set_attr_allow_any_host, set_attr_serial, set_attr_model, set_device_path, set_device_uuid, set_device_nguid, set_ana_grpid, set_enable, set_addr_trtype, set_addr_adrfam, set_addr_treq, set_addr_traddr, set_addr_trsvcid, set_ana_state}
+use Rattle.configfs_tree.specs.Table.{set_attr_allow_any_host, set_attr_serial, set_attr_model, set_device_path, set_identifier, set_ana_grpid, set_enable, set_addr_trtype, set_addr_adrfam, set_addr_treq, set_addr_traddr, set_addr_trsvcid, set_ana_state}
 
 -- what an outcome leaves, if it accepts, keeps the standing facts
 abbrev pub Keeps : Outcome → Type 0
@@ -202,15 +205,10 @@ k_set_device_path t sub nsid value h = holds_if_subsystem _ _ (λ s e. holds_if_
     (λ m found. ap (λ (x : NamespaceRow). x.enabled) (sym (some_same (put_in (Path value (number_of value (paths_of t.disks))) n) m (sym (get-update_at nat_cmp_total nat_cmp-IsAntisymmetric s.namespaces nsid (put_in (Path value (number_of value (paths_of t.disks)))) n f) ∙ found)))
     ∙ left_false n.enabled (holds_path t.disks s.at nsid n.device_path) free) h)))))
 
-k_set_device_uuid : (t : Configuration) (sub : List ℕ) (nsid : ℕ) (value : List ℕ) → IsPlaced t → Keeps (set_device_uuid t sub nsid value)
-unfolding set_device_uuid
-k_set_device_uuid t sub nsid value h = holds_if_subsystem _ _ (λ s e. holds_if_namespace _ _ (λ n f. holds_end _ _ _ (λ _. holds_parsed (parsed value) (λ (uuid : List ℕ). unless_stands (bytes_eq n.uuid uuid) t (put_on t sub s.at nsid (Uuid uuid))) (λ bytes. holds_unless _ t _ _ h (λ _.
-    namespace_put t sub nsid (Uuid bytes) s n e f refl (λ on. on) h)))))
-
-k_set_device_nguid : (t : Configuration) (sub : List ℕ) (nsid : ℕ) (value : List ℕ) → IsPlaced t → Keeps (set_device_nguid t sub nsid value)
-unfolding set_device_nguid
-k_set_device_nguid t sub nsid value h = holds_if_subsystem _ _ (λ s e. holds_if_namespace _ _ (λ n f. holds_end _ _ _ (λ _. holds_parsed (parsed value) (λ (nguid : List ℕ). unless_stands (bytes_eq n.nguid nguid) t (put_on t sub s.at nsid (Nguid nguid))) (λ bytes. holds_unless _ t _ _ h (λ _.
-    namespace_put t sub nsid (Nguid bytes) s n e f refl (λ on. on) h)))))
+k_set_identifier : (t : Configuration) (sub : List ℕ) (nsid : ℕ) (which : Identifier) (value : List ℕ) → IsPlaced t → Keeps (set_identifier t sub nsid which value)
+unfolding set_identifier
+k_set_identifier t sub nsid which value h = holds_if_subsystem _ _ (λ s e. holds_if_namespace _ _ (λ n f. holds_end _ _ _ (λ _. holds_parsed (parsed value) (λ (bytes : List ℕ). unless_stands (bytes_eq (identifier_of which n) bytes) t (put_on t sub s.at nsid (NewIdentifier which bytes))) (λ bytes. holds_unless _ t _ _ h (λ _.
+    namespace_put t sub nsid (NewIdentifier which bytes) s n e f refl (λ on. on) h)))))
 
 keeps_group_of : (t : Configuration) (sub : List ℕ) (nsid : ℕ) (s : SubsystemRow) (n : NamespaceRow) (group : Option ℕ) → map.get t.settings.subsystems sub ≡ Some s → map.get s.namespaces nsid ≡ Some n → IsPlaced t → Keeps (put_group_of t sub nsid s n group)
 keeps_group_of t sub nsid s n None e f h = refuses _
@@ -268,8 +266,8 @@ k_set_enable t sub nsid value h = holds_if_subsystem _ _ (λ s e. holds_if_names
 
 k_set_of_namespace : (t : Configuration) (sub : List ℕ) (nsid : ℕ) (a : Attr) (value : List ℕ) → IsPlaced t → Keeps (set_of_namespace t sub nsid a value)
 k_set_of_namespace t sub nsid attr.DevicePath value h = k_set_device_path t sub nsid value h
-k_set_of_namespace t sub nsid attr.DeviceUuid value h = k_set_device_uuid t sub nsid value h
-k_set_of_namespace t sub nsid attr.DeviceNguid value h = k_set_device_nguid t sub nsid value h
+k_set_of_namespace t sub nsid attr.DeviceUuid value h = k_set_identifier t sub nsid Uuid value h
+k_set_of_namespace t sub nsid attr.DeviceNguid value h = k_set_identifier t sub nsid Nguid value h
 k_set_of_namespace t sub nsid attr.AnaGrpid value h = k_set_ana_grpid t sub nsid value h
 k_set_of_namespace t sub nsid attr.Enable value h = k_set_enable t sub nsid value h
 k_set_of_namespace t sub nsid a value h = refuses _

@@ -27,7 +27,10 @@ use Rattle.configfs_rows.specs.declared.disks.DiskRow.{DiskRow}
 use Rattle.configfs_rows.specs.declared.disks.Holder.{Holder}
 use Rattle.configfs_rows.specs.declared.namespaces.NamespaceRow.{NamespaceRow}
 use Rattle.configfs_rows.specs.declared.namespaces.NamespacePut.{NamespacePut}
-use Rattle.configfs_rows.specs.declared.namespaces.NamespacePut.TheVariants.{Path, Uuid, Nguid, Group, Enabled}
+use Rattle.configfs_rows.specs.declared.namespaces.NamespacePut.TheVariants.{Path, Identifier as NewIdentifier, Group, Enabled}
+use Rattle.configfs_rows.specs.declared.namespaces.Identifier.{Identifier}
+use Rattle.configfs_rows.specs.declared.namespaces.Identifier.TheVariants.{Uuid, Nguid}
+use Rattle.configfs_rows.specs.Rows.{identifier_of}
 use Rattle.configfs_rows.specs.declared.subsystems.SubsystemRow.{SubsystemRow}
 use Rattle.configfs_rows.specs.declared.subsystems.SubsystemPut.TheVariants.{AllowAnyHost, Serial, ModelName}
 use Rattle.configfs_rows.specs.declared.ports.PortRow.{PortRow}
@@ -45,7 +48,7 @@ use Rattle.configfs_tree.specs.Outcome.{Outcome, unless_stands, with_settings, o
 use Rattle.configfs_tree.specs.Sound.{NamespaceStands, SubsystemStands, PortStands, EachSubsystem, IsSound, Hosts, is_address, is_kept_path}
 use Rattle.configfs_tree.specs.Table.{mkdir, rmdir, set, set_of_subsystem, set_of_namespace, set_of_port, set_of_group, edit_outcome, put_on, put_group_of, put_state, set_address, disabled, enabled}
 use Rattle.configfs_tree.specs.Table.{mkdir_host, mkdir_subsystem, mkdir_namespace, mkdir_port, mkdir_ana_group, rmdir_host, rmdir_subsystem, rmdir_namespace, rmdir_port, rmdir_ana_group}
-use Rattle.configfs_tree.specs.Table.{set_attr_allow_any_host, set_attr_serial, set_attr_model, set_device_path, set_device_uuid, set_device_nguid, set_ana_grpid, set_enable, set_addr_trtype, set_addr_adrfam, set_addr_treq, set_addr_traddr, set_addr_trsvcid, set_ana_state}
+use Rattle.configfs_tree.specs.Table.{set_attr_allow_any_host, set_attr_serial, set_attr_model, set_device_path, set_identifier, set_ana_grpid, set_enable, set_addr_trtype, set_addr_adrfam, set_addr_treq, set_addr_traddr, set_addr_trsvcid, set_ana_state}
 use Rattle.configfs_rows.proofs.Gets.{some_same, none_some}
 use Rattle.configfs_rows.proofs.Texts.{left_true, right_true, group_in_range}
 use Rattle.configfs_rows.proofs.Each.{EachRow, each_inserted, each_removed, each_updated, had_inserted, had_removed, had_updated, has_inserted, has_removed, none_there, len_inserted, len_removed, none_passing}
@@ -381,15 +384,10 @@ f_set_device_path t sub nsid value text s = holds_if_subsystem _ _ (λ r e. hold
     space_sound t sub nsid (Path value (number_of value (paths_of t.disks)))
     (λ m h. record { nsid_low = h.nsid_low; nsid_high = h.nsid_high; group_low = h.group_low; group_high = h.group_high; path = both (is_text value) (is_path value) text (not_no (is_path value) good); disk = refl }) s)))))
 
-f_set_device_uuid : (t : Configuration) (sub : List ℕ) (nsid : ℕ) (value : List ℕ) → IsSound t → Sounds (set_device_uuid t sub nsid value)
-unfolding set_device_uuid
-f_set_device_uuid t sub nsid value s = holds_if_subsystem _ _ (λ r e. holds_if_namespace _ _ (λ n f. holds_end _ _ _ (λ _. holds_parsed (parsed value) (λ (uuid : List ℕ). unless_stands (bytes_eq n.uuid uuid) t (put_on t sub r.at nsid (Uuid uuid))) (λ bytes. holds_unless _ t _ _ s (λ _.
-    space_sound t sub nsid (Uuid bytes) (λ m h. record { nsid_low = h.nsid_low; nsid_high = h.nsid_high; group_low = h.group_low; group_high = h.group_high; path = h.path; disk = h.disk }) s)))))
-
-f_set_device_nguid : (t : Configuration) (sub : List ℕ) (nsid : ℕ) (value : List ℕ) → IsSound t → Sounds (set_device_nguid t sub nsid value)
-unfolding set_device_nguid
-f_set_device_nguid t sub nsid value s = holds_if_subsystem _ _ (λ r e. holds_if_namespace _ _ (λ n f. holds_end _ _ _ (λ _. holds_parsed (parsed value) (λ (nguid : List ℕ). unless_stands (bytes_eq n.nguid nguid) t (put_on t sub r.at nsid (Nguid nguid))) (λ bytes. holds_unless _ t _ _ s (λ _.
-    space_sound t sub nsid (Nguid bytes) (λ m h. record { nsid_low = h.nsid_low; nsid_high = h.nsid_high; group_low = h.group_low; group_high = h.group_high; path = h.path; disk = h.disk }) s)))))
+f_set_identifier : (t : Configuration) (sub : List ℕ) (nsid : ℕ) (which : Identifier) (value : List ℕ) → IsSound t → Sounds (set_identifier t sub nsid which value)
+unfolding set_identifier
+f_set_identifier t sub nsid which value s = holds_if_subsystem _ _ (λ r e. holds_if_namespace _ _ (λ n f. holds_end _ _ _ (λ _. holds_parsed (parsed value) (λ (bytes : List ℕ). unless_stands (bytes_eq (identifier_of which n) bytes) t (put_on t sub r.at nsid (NewIdentifier which bytes))) (λ bytes. holds_unless _ t _ _ s (λ _.
+    space_sound t sub nsid (NewIdentifier which bytes) (λ m h. record { nsid_low = h.nsid_low; nsid_high = h.nsid_high; group_low = h.group_low; group_high = h.group_high; path = h.path; disk = h.disk }) s)))))
 
 sounds_group_of : (t : Configuration) (sub : List ℕ) (nsid : ℕ) (r : SubsystemRow) (n : NamespaceRow) (value : List ℕ) (group : Option ℕ) → group_named value ≡ group → IsSound t → Sounds (put_group_of t sub nsid r n group)
 sounds_group_of t sub nsid r n value None named s = refuses _
@@ -415,8 +413,8 @@ f_set_enable t sub nsid value s = holds_if_subsystem _ _ (λ r e. holds_if_names
 
 f_set_of_namespace : (t : Configuration) (sub : List ℕ) (nsid : ℕ) (a : Attr) (value : List ℕ) → IsTrue (is_text value) → IsSound t → Sounds (set_of_namespace t sub nsid a value)
 f_set_of_namespace t sub nsid attr.DevicePath value text s = f_set_device_path t sub nsid value text s
-f_set_of_namespace t sub nsid attr.DeviceUuid value text s = f_set_device_uuid t sub nsid value s
-f_set_of_namespace t sub nsid attr.DeviceNguid value text s = f_set_device_nguid t sub nsid value s
+f_set_of_namespace t sub nsid attr.DeviceUuid value text s = f_set_identifier t sub nsid Uuid value s
+f_set_of_namespace t sub nsid attr.DeviceNguid value text s = f_set_identifier t sub nsid Nguid value s
 f_set_of_namespace t sub nsid attr.AnaGrpid value text s = f_set_ana_grpid t sub nsid value s
 f_set_of_namespace t sub nsid attr.Enable value text s = f_set_enable t sub nsid value s
 f_set_of_namespace t sub nsid a value text s = refuses _

@@ -21,12 +21,15 @@ use Rattle.sqe_cqe.specs.declared.rows.Ana.{Ana}
 use Rattle.sqe_cqe.specs.declared.rows.Ana.TheVariants as state
 use Rattle.configfs_tree.specs.Asked.{some_port_links, controller_at_subsystem, subsystem_place_taken, port_place_taken}
 use Rattle.configfs_tree.specs.Outcome.{Outcome, on_subsystem, on_port, unless_stands}
-use Rattle.configfs_tree.specs.Table.{mkdir_host, mkdir_subsystem, mkdir_namespace, mkdir_port, mkdir_ana_group, rmdir_host, rmdir_subsystem, rmdir_namespace, rmdir_port, rmdir_ana_group, set_attr_allow_any_host, set_attr_serial, set_attr_model, put_on, set_device_path, set_device_uuid, set_device_nguid, put_group_of, set_ana_grpid, set_enable, set_address, set_addr_trtype, set_addr_adrfam, set_addr_treq, set_addr_traddr, set_addr_trsvcid, put_state, set_ana_state, mkdir, rmdir, set_of_subsystem, set_of_namespace, set_of_port, set_of_group, set as set_outcome, edit_outcome}
+use Rattle.configfs_tree.specs.Table.{mkdir_host, mkdir_subsystem, mkdir_namespace, mkdir_port, mkdir_ana_group, rmdir_host, rmdir_subsystem, rmdir_namespace, rmdir_port, rmdir_ana_group, set_attr_allow_any_host, set_attr_serial, set_attr_model, put_on, set_device_path, set_identifier, put_group_of, set_ana_grpid, set_enable, set_address, set_addr_trtype, set_addr_adrfam, set_addr_treq, set_addr_traddr, set_addr_trsvcid, put_state, set_ana_state, mkdir, rmdir, set_of_subsystem, set_of_namespace, set_of_port, set_of_group, set as set_outcome, edit_outcome}
 use Rattle.configfs_tree.specs.declared.configuration.Configuration.{Configuration}
 use Rattle.configfs_rows.specs.declared.disks.DiskRow.{DiskRow}
 use Rattle.configfs_rows.specs.declared.namespaces.NamespaceRow.{NamespaceRow}
 use Rattle.configfs_rows.specs.declared.namespaces.NamespacePut.{NamespacePut}
-use Rattle.configfs_rows.specs.declared.namespaces.NamespacePut.TheVariants.{Path, Uuid, Nguid, Group, Enabled}
+use Rattle.configfs_rows.specs.declared.namespaces.NamespacePut.TheVariants.{Path, Identifier as NewIdentifier, Group, Enabled}
+use Rattle.configfs_rows.specs.declared.namespaces.Identifier.{Identifier}
+use Rattle.configfs_rows.specs.declared.namespaces.Identifier.TheVariants.{Uuid, Nguid}
+use Rattle.configfs_rows.specs.Rows.{identifier_of}
 use Rattle.configfs_rows.specs.declared.subsystems.SubsystemRow.{SubsystemRow}
 use Rattle.configfs_rows.specs.declared.subsystems.SubsystemPut.{SubsystemPut}
 use Rattle.configfs_rows.specs.declared.subsystems.SubsystemPut.TheVariants.{AllowAnyHost, Serial, ModelName}
@@ -166,13 +169,9 @@ s_set_device_path : (t : Configuration) (sub : List ℕ) (nsid : ℕ) (value : L
 unfolding set_device_path
 s_set_device_path t sub nsid value = holds_if_subsystem _ _ (λ s e. holds_if_namespace _ _ (λ n f. holds_row _ _ _ _ (λ free. holds_end _ _ _ (λ _. holds_unless _ t _ _ (stays t) (λ _. plain_put t sub nsid (Path value (number_of value (paths_of t.disks))) t.disks)))))
 
-s_set_device_uuid : (t : Configuration) (sub : List ℕ) (nsid : ℕ) (value : List ℕ) → StaysBy t (set_device_uuid t sub nsid value)
-unfolding set_device_uuid
-s_set_device_uuid t sub nsid value = holds_if_subsystem _ _ (λ s e. holds_if_namespace _ _ (λ n f. holds_end _ _ _ (λ _. holds_parsed (parsed value) (λ (uuid : List ℕ). unless_stands (bytes_eq n.uuid uuid) t (put_on t sub s.at nsid (Uuid uuid))) (λ bytes. holds_unless _ t _ _ (stays t) (λ _. plain_put t sub nsid (Uuid bytes) t.disks)))))
-
-s_set_device_nguid : (t : Configuration) (sub : List ℕ) (nsid : ℕ) (value : List ℕ) → StaysBy t (set_device_nguid t sub nsid value)
-unfolding set_device_nguid
-s_set_device_nguid t sub nsid value = holds_if_subsystem _ _ (λ s e. holds_if_namespace _ _ (λ n f. holds_end _ _ _ (λ _. holds_parsed (parsed value) (λ (nguid : List ℕ). unless_stands (bytes_eq n.nguid nguid) t (put_on t sub s.at nsid (Nguid nguid))) (λ bytes. holds_unless _ t _ _ (stays t) (λ _. plain_put t sub nsid (Nguid bytes) t.disks)))))
+s_set_identifier : (t : Configuration) (sub : List ℕ) (nsid : ℕ) (which : Identifier) (value : List ℕ) → StaysBy t (set_identifier t sub nsid which value)
+unfolding set_identifier
+s_set_identifier t sub nsid which value = holds_if_subsystem _ _ (λ s e. holds_if_namespace _ _ (λ n f. holds_end _ _ _ (λ _. holds_parsed (parsed value) (λ (bytes : List ℕ). unless_stands (bytes_eq (identifier_of which n) bytes) t (put_on t sub s.at nsid (NewIdentifier which bytes))) (λ bytes. holds_unless _ t _ _ (stays t) (λ _. plain_put t sub nsid (NewIdentifier which bytes) t.disks)))))
 
 s_group_of : (t : Configuration) (sub : List ℕ) (nsid : ℕ) (s : SubsystemRow) (n : NamespaceRow) (group : Option ℕ) → StaysBy t (put_group_of t sub nsid s n group)
 s_group_of t sub nsid s n None = refuses _
@@ -190,8 +189,8 @@ s_set_enable t sub nsid value = holds_if_subsystem _ _ (λ s e. holds_if_namespa
 
 s_set_of_namespace : (t : Configuration) (sub : List ℕ) (nsid : ℕ) (a : Attr) (value : List ℕ) → StaysBy t (set_of_namespace t sub nsid a value)
 s_set_of_namespace t sub nsid attr.DevicePath value = s_set_device_path t sub nsid value
-s_set_of_namespace t sub nsid attr.DeviceUuid value = s_set_device_uuid t sub nsid value
-s_set_of_namespace t sub nsid attr.DeviceNguid value = s_set_device_nguid t sub nsid value
+s_set_of_namespace t sub nsid attr.DeviceUuid value = s_set_identifier t sub nsid Uuid value
+s_set_of_namespace t sub nsid attr.DeviceNguid value = s_set_identifier t sub nsid Nguid value
 s_set_of_namespace t sub nsid attr.AnaGrpid value = s_set_ana_grpid t sub nsid value
 s_set_of_namespace t sub nsid attr.Enable value = s_set_enable t sub nsid value
 s_set_of_namespace t sub nsid a value = refuses _

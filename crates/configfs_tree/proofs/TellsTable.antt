@@ -35,7 +35,10 @@ use Rattle.uuid.specs.Text.{parsed}
 use Rattle.sqe_cqe.specs.Anas.{ana_named, ana_number}
 use Rattle.configfs_rows.specs.Values.{group_named}
 use Rattle.configfs_tree.specs.Asked.{subsystem_place_taken, port_place_taken}
-use Rattle.configfs_rows.specs.declared.namespaces.NamespacePut.TheVariants.{Path, Uuid, Nguid, Group, Enabled}
+use Rattle.configfs_rows.specs.declared.namespaces.NamespacePut.TheVariants.{Path, Identifier as NewIdentifier, Group, Enabled}
+use Rattle.configfs_rows.specs.declared.namespaces.Identifier.{Identifier}
+use Rattle.configfs_rows.specs.declared.namespaces.Identifier.TheVariants.{Uuid, Nguid}
+use Rattle.configfs_rows.specs.Rows.{identifier_of}
 use Rattle.configfs_rows.specs.declared.subsystems.SubsystemPut.{SubsystemPut}
 use Rattle.configfs_rows.specs.declared.subsystems.SubsystemPut.TheVariants.{AllowAnyHost, Serial, ModelName}
 use Rattle.sqe_cqe.specs.declared.rows.Ana.TheVariants as state
@@ -49,7 +52,7 @@ use Rattle.configfs_tree.specs.declared.edits.FolderEdit.{FolderEdit}
 use Rattle.configfs_tree.specs.declared.edits.FolderEdit.TheVariants as edit
 use Rattle.configfs_tree.specs.Table.{mkdir, rmdir, set, set_of_subsystem, set_of_namespace, set_of_port, set_of_group, edit_outcome, put_on, put_group_of, put_state, set_address, disabled, enabled}
 use Rattle.configfs_tree.specs.Table.{mkdir_host, mkdir_subsystem, mkdir_namespace, mkdir_port, mkdir_ana_group, rmdir_host, rmdir_subsystem, rmdir_namespace, rmdir_port, rmdir_ana_group}
-use Rattle.configfs_tree.specs.Table.{set_attr_allow_any_host, set_attr_serial, set_attr_model, set_device_path, set_device_uuid, set_device_nguid, set_ana_grpid, set_enable, set_addr_trtype, set_addr_adrfam, set_addr_treq, set_addr_traddr, set_addr_trsvcid, set_ana_state}
+use Rattle.configfs_tree.specs.Table.{set_attr_allow_any_host, set_attr_serial, set_attr_model, set_device_path, set_identifier, set_ana_grpid, set_enable, set_addr_trtype, set_addr_adrfam, set_addr_treq, set_addr_traddr, set_addr_trsvcid, set_ana_state}
 use Rattle.std.proofs.lemmas.Slice.Eq.{bytes_eq-Decides}
 use Rattle.std.proofs.lemmas.Bool.{eq-eqb}
 use Rattle.configfs_tree.specs.Outcome.{touching}
@@ -220,15 +223,14 @@ unfolding set_device_path
 u_set_device_path t sub nsid value = holds_if_subsystem _ _ (λ s e. holds_if_namespace _ _ (λ n f. holds_row _ _ _ _ (λ _. holds_end _ _ _ (λ _. holds_unless _ t _ _ (tells_nothing t) (λ other.
     put_tells t sub nsid (Path value (number_of value (paths_of t.disks))) s n e f (λ is. other_path n.device_path value other (ap (λ (r : NamespaceRow). r.device_path) is)) refl refl)))))
 
-u_set_device_uuid : (t : Configuration) (sub : List ℕ) (nsid : ℕ) (value : List ℕ) → Told t (set_device_uuid t sub nsid value)
-unfolding set_device_uuid
-u_set_device_uuid t sub nsid value = holds_if_subsystem _ _ (λ s e. holds_if_namespace _ _ (λ n f. holds_end _ _ _ (λ _. holds_parsed (parsed value) (λ (uuid : List ℕ). unless_stands (bytes_eq n.uuid uuid) t (put_on t sub s.at nsid (Uuid uuid))) (λ bytes. holds_unless _ t _ _ (tells_nothing t) (λ other.
-    put_tells t sub nsid (Uuid bytes) s n e f (λ is. other_bytes n.uuid bytes other (sym (ap (λ (r : NamespaceRow). r.uuid) is))) refl refl)))))
+put_identifier : (which : Identifier) (bytes : List ℕ) (n : NamespaceRow) → identifier_of which (put_in (NewIdentifier which bytes) n) ≡ bytes
+put_identifier Uuid bytes n = refl
+put_identifier Nguid bytes n = refl
 
-u_set_device_nguid : (t : Configuration) (sub : List ℕ) (nsid : ℕ) (value : List ℕ) → Told t (set_device_nguid t sub nsid value)
-unfolding set_device_nguid
-u_set_device_nguid t sub nsid value = holds_if_subsystem _ _ (λ s e. holds_if_namespace _ _ (λ n f. holds_end _ _ _ (λ _. holds_parsed (parsed value) (λ (nguid : List ℕ). unless_stands (bytes_eq n.nguid nguid) t (put_on t sub s.at nsid (Nguid nguid))) (λ bytes. holds_unless _ t _ _ (tells_nothing t) (λ other.
-    put_tells t sub nsid (Nguid bytes) s n e f (λ is. other_bytes n.nguid bytes other (sym (ap (λ (r : NamespaceRow). r.nguid) is))) refl refl)))))
+u_set_identifier : (t : Configuration) (sub : List ℕ) (nsid : ℕ) (which : Identifier) (value : List ℕ) → Told t (set_identifier t sub nsid which value)
+unfolding set_identifier
+u_set_identifier t sub nsid which value = holds_if_subsystem _ _ (λ s e. holds_if_namespace _ _ (λ n f. holds_end _ _ _ (λ _. holds_parsed (parsed value) (λ (bytes : List ℕ). unless_stands (bytes_eq (identifier_of which n) bytes) t (put_on t sub s.at nsid (NewIdentifier which bytes))) (λ bytes. holds_unless _ t _ _ (tells_nothing t) (λ other.
+    put_tells t sub nsid (NewIdentifier which bytes) s n e f (λ is. other_bytes (identifier_of which n) bytes other (sym (ap (λ (r : NamespaceRow). identifier_of which r) is) ∙ put_identifier which bytes n)) refl refl)))))
 
 u_put_group_of : (t : Configuration) (sub : List ℕ) (nsid : ℕ) (s : SubsystemRow) (n : NamespaceRow) (group : Option ℕ) → map.get t.settings.subsystems sub ≡ Some s → map.get s.namespaces nsid ≡ Some n → Told t (put_group_of t sub nsid s n group)
 u_put_group_of t sub nsid s n None e f = refuses _
@@ -262,8 +264,8 @@ u_set_enable t sub nsid value = holds_if_subsystem _ _ (λ s e. holds_if_namespa
 
 u_set_of_namespace : (t : Configuration) (sub : List ℕ) (nsid : ℕ) (a : Attr) (value : List ℕ) → Told t (set_of_namespace t sub nsid a value)
 u_set_of_namespace t sub nsid attr.DevicePath value = u_set_device_path t sub nsid value
-u_set_of_namespace t sub nsid attr.DeviceUuid value = u_set_device_uuid t sub nsid value
-u_set_of_namespace t sub nsid attr.DeviceNguid value = u_set_device_nguid t sub nsid value
+u_set_of_namespace t sub nsid attr.DeviceUuid value = u_set_identifier t sub nsid Uuid value
+u_set_of_namespace t sub nsid attr.DeviceNguid value = u_set_identifier t sub nsid Nguid value
 u_set_of_namespace t sub nsid attr.AnaGrpid value = u_set_ana_grpid t sub nsid value
 u_set_of_namespace t sub nsid attr.Enable value = u_set_enable t sub nsid value
 u_set_of_namespace t sub nsid a value = refuses _

@@ -15,7 +15,10 @@ use Rattle.sqe_cqe.specs.Anas.{ana_named}
 use Rattle.configfs_rows.specs.declared.limits.TheConstants.{MAX_HOSTS, MAX_SUBSYSTEMS, MAX_PORTS, MAX_NSID, MAX_ANA_GROUPS, SERIAL_LEN, MODEL_LEN, TRADDR_LEN, TRSVCID_LEN}
 use Rattle.configfs_rows.specs.declared.namespaces.NamespaceRow.{NamespaceRow}
 use Rattle.configfs_rows.specs.declared.namespaces.NamespacePut.{NamespacePut}
-use Rattle.configfs_rows.specs.declared.namespaces.NamespacePut.TheVariants.{Path, Uuid, Nguid, Group, Enabled}
+use Rattle.configfs_rows.specs.declared.namespaces.NamespacePut.TheVariants.{Path, Identifier as NewIdentifier, Group, Enabled}
+use Rattle.configfs_rows.specs.declared.namespaces.Identifier.{Identifier}
+use Rattle.configfs_rows.specs.declared.namespaces.Identifier.TheVariants.{Uuid, Nguid}
+use Rattle.configfs_rows.specs.Rows.{identifier_of}
 use Rattle.configfs_rows.specs.declared.subsystems.SubsystemRow.{SubsystemRow}
 use Rattle.configfs_rows.specs.declared.subsystems.SubsystemPut.TheVariants.{AllowAnyHost, Serial, ModelName}
 use Rattle.sqe_cqe.specs.declared.rows.Ana.{Ana}
@@ -150,17 +153,12 @@ abbrev pub put_parsed : Option (List ℕ) → (List ℕ → Outcome) → Outcome
 put_parsed None put = Refuses EINVAL
 put_parsed (Some bytes) put = put bytes
 
-unfoldable pub set_device_uuid : Configuration → List ℕ → ℕ → List ℕ → Outcome
-set_device_uuid t sub nsid value = in_namespace t sub nsid (λ s n. first_of (
+-- the UUID or the NGUID
+unfoldable pub set_identifier : Configuration → List ℕ → ℕ → Identifier → List ℕ → Outcome
+set_identifier t sub nsid which value = in_namespace t sub nsid (λ s n. first_of (
     (is_busy t s nsid n, EBUSY)
     ∷ [])
-    (put_parsed (parsed value) (λ uuid. unless_stands (bytes_eq n.uuid uuid) t (put_on t sub s.at nsid (Uuid uuid)))))
-
-unfoldable pub set_device_nguid : Configuration → List ℕ → ℕ → List ℕ → Outcome
-set_device_nguid t sub nsid value = in_namespace t sub nsid (λ s n. first_of (
-    (is_busy t s nsid n, EBUSY)
-    ∷ [])
-    (put_parsed (parsed value) (λ nguid. unless_stands (bytes_eq n.nguid nguid) t (put_on t sub s.at nsid (Nguid nguid)))))
+    (put_parsed (parsed value) (λ bytes. unless_stands (bytes_eq (identifier_of which n) bytes) t (put_on t sub s.at nsid (NewIdentifier which bytes)))))
 
 -- an ANA change of the subsystem, where the value changes
 abbrev pub put_group_of : Configuration → List ℕ → ℕ → SubsystemRow → NamespaceRow → Option ℕ → Outcome
@@ -251,8 +249,8 @@ set_of_subsystem t sub a value = Refuses EINVAL
 
 abbrev pub set_of_namespace : Configuration → List ℕ → ℕ → Attr → List ℕ → Outcome
 set_of_namespace t sub nsid attr.DevicePath value = set_device_path t sub nsid value
-set_of_namespace t sub nsid attr.DeviceUuid value = set_device_uuid t sub nsid value
-set_of_namespace t sub nsid attr.DeviceNguid value = set_device_nguid t sub nsid value
+set_of_namespace t sub nsid attr.DeviceUuid value = set_identifier t sub nsid Uuid value
+set_of_namespace t sub nsid attr.DeviceNguid value = set_identifier t sub nsid Nguid value
 set_of_namespace t sub nsid attr.AnaGrpid value = set_ana_grpid t sub nsid value
 set_of_namespace t sub nsid attr.Enable value = set_enable t sub nsid value
 set_of_namespace t sub nsid a value = Refuses EINVAL

@@ -9,7 +9,7 @@ ghost use Rattle.configfs_rows.specs.Values.{is_text};
 use crate::configuration::Configuration;
 use crate::edits::{Attr, Change, Errno, Folder, FolderEdit, Refused};
 use crate::tree::Tree;
-use configfs_rows::{Nqn, may_be_text};
+use configfs_rows::{Identifier, Nqn, may_be_text};
 use std::alloc::Global;
 
 impl FolderEdit {
@@ -117,8 +117,12 @@ impl Configuration {
     {
         match attr {
             Attr::DevicePath => self.set_device_path(alloc, sub, nsid, value),
-            Attr::DeviceUuid => refusing(self.set_device_uuid(sub, nsid, value)),
-            Attr::DeviceNguid => refusing(self.set_device_nguid(sub, nsid, value)),
+            Attr::DeviceUuid => {
+                refusing(self.set_identifier(sub, nsid, Identifier::Uuid, value))
+            }
+            Attr::DeviceNguid => {
+                refusing(self.set_identifier(sub, nsid, Identifier::Nguid, value))
+            }
             Attr::AnaGrpid => refusing(self.set_ana_grpid(sub, nsid, value)),
             Attr::Enable => refusing(self.set_enable(sub, nsid, value)),
             _ => Err(Refused::Errno(Errno::EINVAL)),

@@ -2,12 +2,13 @@ ghost use Rattle.std.specs.Prelude.{◌≡◌, ◌≤◌, ◌||◌, ◌+◌, ◌
 ghost use Rattle.std.specs.List.{list_any};
 ghost use Rattle.std.specs.Str.{bytes_eq};
 ghost use Rattle.configfs_rows.specs.Holders.{are_apart, holds_path};
-ghost use Rattle.configfs_rows.specs.declared.limits.TheConstants.{MAX_DISKS};
+ghost use Rattle.configfs_rows.specs.declared.limits.TheConstants.{MAX_DISKS, MAX_CONTROLLERS};
 ghost use Rattle.configfs_tree.specs.Links.{one_more};
 ghost use Rattle.configfs_tree.specs.Start.{are_disks, empty_tree, free_disk, line_path};
 
 use configfs_rows::{
-    DiskRow, Disks, MAX_DISKS, MAX_PORTS, MAX_SUBSYSTEMS, Names, NamespaceRow, Ports, Subsystems,
+    DiskRow, Disks, MAX_CONTROLLERS, MAX_DISKS, MAX_PORTS, MAX_SUBSYSTEMS, Names, NamespaceRow,
+    Ports, Subsystems,
 };
 use mem_bdev::{DiskLine, Name};
 use std::alloc::{AllocError, Global};
@@ -85,25 +86,24 @@ pub(crate) fn raised(count: u64) -> u64
     count.saturating_add(1)
 }
 
-// Counts with one more at a position.
-pub(crate) fn more_at_subsystem(mut counts: [u8; MAX_SUBSYSTEMS], at: u8) -> [u8; MAX_SUBSYSTEMS]
-    requires { slice_index counts at < 31 }
-    ensures { result ≡ one_more counts at }
+// The count at a position, or 0 past the last.
+pub(crate) fn count_at(counts: &[u8], at: u8) -> u8
+    ensures { result ≡ slice_index counts.now at }
 {
-    if (at as usize) < MAX_SUBSYSTEMS {
-        counts[at as usize] += 1;
+    match counts.get(at as usize) {
+        Some(n) => *n,
+        None => 0,
     }
-    counts
 }
 
-pub(crate) fn more_at_port(mut counts: [u8; MAX_PORTS], at: u8) -> [u8; MAX_PORTS]
-    requires { slice_index counts at < 31 }
-    ensures { result ≡ one_more counts at }
+// Counts one more at a position.
+pub(crate) fn raise_at(counts: &mut [u8], at: u8)
+    requires { slice_index counts.old at < MAX_CONTROLLERS }
+    ensures { counts.new ≡ one_more counts.old at }
 {
-    if (at as usize) < MAX_PORTS {
+    if (at as usize) < counts.len() {
         counts[at as usize] += 1;
     }
-    counts
 }
 
 impl Configuration {
@@ -130,20 +130,14 @@ impl Configuration {
     pub(crate) fn controller_at_subsystem(&self, at: u8) -> bool
         ensures { result ≡ nat_lt 0 (slice_index self.now.settings.attached.subsystems at) }
     {
-        match self.settings.attached.subsystems.get(at as usize) {
-            Some(n) => *n > 0,
-            None => false,
-        }
+        count_at(&self.settings.attached.subsystems, at) > 0
     }
 
     // Whether a controller is attached through the port at a position.
     pub(crate) fn controller_at_port(&self, at: u8) -> bool
         ensures { result ≡ nat_lt 0 (slice_index self.now.settings.attached.ports at) }
     {
-        match self.settings.attached.ports.get(at as usize) {
-            Some(n) => *n > 0,
-            None => false,
-        }
+        count_at(&self.settings.attached.ports, at) > 0
     }
 
     // Whether a namespace is enabled or draining.

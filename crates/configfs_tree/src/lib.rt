@@ -25,9 +25,10 @@ mod tests;
 mod tree;
 
 pub use configfs_rows::{
-    Address, DiskRow, Disks, Groups, Holder, MAX_ANA_GROUPS, MAX_DISKS, MAX_HOSTS, MAX_NSID,
-    MAX_PORTS, MAX_SUBSYSTEMS, MODEL_LEN, NQN_LEN, Names, NamespaceRow, Namespaces, Nqn, PATH_LEN,
-    Phase, PortRow, Ports, SERIAL_LEN, SubsystemRow, Subsystems, TRADDR_LEN, TRSVCID_LEN,
+    Address, DiskRow, Disks, Groups, Holder, Identifier, MAX_ANA_GROUPS, MAX_CONTROLLERS,
+    MAX_DISKS, MAX_HOSTS, MAX_NSID, MAX_PORTS, MAX_SUBSYSTEMS, MODEL_LEN, NQN_LEN, Names,
+    NamespaceRow, Namespaces, Nqn, PATH_LEN, Phase, PortRow, Ports, SERIAL_LEN, SubsystemRow,
+    Subsystems, TRADDR_LEN, TRSVCID_LEN,
 };
 pub use configuration::{Attached, Configuration, Settings, may_be_disks};
 pub use edits::{Attr, Change, Errno, Folder, FolderEdit, Refused, Touched};

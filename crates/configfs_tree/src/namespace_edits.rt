@@ -3,7 +3,7 @@ ghost use Rattle.std.specs.Prelude.{◌≡◌, true, Some, codes, IsTrue, IfOk};
 ghost use Rattle.configfs_tree.specs.Drained.{drained};
 ghost use Rattle.configfs_tree.specs.Gives.{Gives, GivesErrno};
 ghost use Rattle.configfs_tree.specs.Phases.{phase_at};
-ghost use Rattle.configfs_tree.specs.Table.{mkdir_namespace, rmdir_namespace, set_device_path, set_device_uuid, set_device_nguid, set_ana_grpid, set_enable};
+ghost use Rattle.configfs_tree.specs.Table.{mkdir_namespace, rmdir_namespace, set_device_path, set_identifier, set_ana_grpid, set_enable};
 ghost use Rattle.configfs_tree.specs.Told.{Tells};
 ghost use Rattle.configfs_rows.specs.Values.{is_text};
 
@@ -11,7 +11,8 @@ use crate::configuration::{Configuration, raised};
 use crate::edits::{Change, Errno, Refused, Touched};
 use crate::tree::Tree;
 use configfs_rows::{
-    Holder, MAX_NSID, NamespacePut, Nqn, Phase, group_number, may_be_path, parsed_uuid, stands,
+    Holder, Identifier, MAX_NSID, NamespacePut, Nqn, Phase, group_number, may_be_path, parsed_uuid,
+    stands,
 };
 use mem_bdev::Name;
 use std::alloc::Global;
@@ -91,15 +92,16 @@ impl Configuration {
         Ok(Change::of(Touched::Namespace(at, nsid)))
     }
 
-    #[tactic(auto, unfolding(crate::specs::Table::set_device_uuid, crate::specs::Outcome::first_of, crate::specs::Outcome::unless_stands, crate::specs::Outcome::if_subsystem, crate::specs::Outcome::if_namespace))]
-    pub(crate) fn set_device_uuid(
+    #[tactic(auto, unfolding(crate::specs::Table::set_identifier, crate::specs::Outcome::first_of, crate::specs::Outcome::unless_stands, crate::specs::Outcome::if_subsystem, crate::specs::Outcome::if_namespace))]
+    pub(crate) fn set_identifier(
         &mut self,
         sub: &Nqn,
         nsid: u32,
+        which: Identifier,
         value: &[u8],
     ) -> Result<Change, Errno>
         requires { IsTrue (is_text value.now) }
-        ensures { GivesErrno (set_device_uuid self.old sub.now nsid value.now) self.old result self.new }
+        ensures { GivesErrno (set_identifier self.old sub.now nsid which value.now) self.old result self.new }
     {
         let Some(row) = self.settings.subsystems.get(sub) else {
             return Err(Errno::ENOENT);
@@ -111,47 +113,15 @@ impl Configuration {
         if self.busy(at, nsid, namespace) {
             return Err(Errno::EBUSY);
         }
-        let Some(uuid) = parsed_uuid(value) else {
+        let Some(bytes) = parsed_uuid(value) else {
             return Err(Errno::EINVAL);
         };
-        if namespace.uuid.as_slice() == uuid.as_slice() {
+        if namespace.identifier(which).as_slice() == bytes.as_slice() {
             return Ok(Change::none());
         }
         self.settings
             .subsystems
-            .put_namespace(sub, nsid, NamespacePut::Uuid(uuid));
-        Ok(Change::of(Touched::Namespace(at, nsid)))
-    }
-
-    #[tactic(auto, unfolding(crate::specs::Table::set_device_nguid, crate::specs::Outcome::first_of, crate::specs::Outcome::unless_stands, crate::specs::Outcome::if_subsystem, crate::specs::Outcome::if_namespace))]
-    pub(crate) fn set_device_nguid(
-        &mut self,
-        sub: &Nqn,
-        nsid: u32,
-        value: &[u8],
-    ) -> Result<Change, Errno>
-        requires { IsTrue (is_text value.now) }
-        ensures { GivesErrno (set_device_nguid self.old sub.now nsid value.now) self.old result self.new }
-    {
-        let Some(row) = self.settings.subsystems.get(sub) else {
-            return Err(Errno::ENOENT);
-        };
-        let at = row.at;
-        let Some(namespace) = row.namespaces.get(nsid) else {
-            return Err(Errno::ENOENT);
-        };
-        if self.busy(at, nsid, namespace) {
-            return Err(Errno::EBUSY);
-        }
-        let Some(nguid) = parsed_uuid(value) else {
-            return Err(Errno::EINVAL);
-        };
-        if namespace.nguid.as_slice() == nguid.as_slice() {
-            return Ok(Change::none());
-        }
-        self.settings
-            .subsystems
-            .put_namespace(sub, nsid, NamespacePut::Nguid(nguid));
+            .put_namespace(sub, nsid, NamespacePut::Identifier(which, bytes));
         Ok(Change::of(Touched::Namespace(at, nsid)))
     }
 

@@ -2,13 +2,16 @@ ghost use Rattle.std.specs.Prelude.{◌≡◌, ◌<◌, slice_index, Some, IfOk,
 ghost use Rattle.std.specs.List.{slice_get};
 ghost use Rattle.std.specs.FinMap as maps;
 ghost use Rattle.configfs_tree.specs.Asked.{subsystem_place_taken, port_place_taken};
+ghost use Rattle.configfs_rows.specs.declared.limits.TheConstants.{MAX_CONTROLLERS};
 ghost use Rattle.configfs_tree.specs.Links.{subsystem_row, port_row, subsystem_place, port_place, place_named, with_attached, with_no_changes};
 ghost use Rattle.configfs_tree.specs.Phases.{phase_at};
 ghost use Rattle.configfs_tree.specs.Standing.{IsStanding};
 ghost use Rattle.configfs_tree.specs.Start.{are_disks, empty_tree};
 
-use crate::configuration::{Attached, Configuration, more_at_port, more_at_subsystem};
-use configfs_rows::{MAX_DISKS, Nqn, Phase, PortRow, SubsystemRow};
+use crate::configuration::{Configuration, count_at, raise_at};
+use configfs_rows::{
+    Disks, MAX_CONTROLLERS, Names, Nqn, Phase, PortRow, Ports, SubsystemRow, Subsystems,
+};
 use mem_bdev::DiskLine;
 use std::alloc::{AllocError, Global};
 use std::marker::Model;
@@ -59,51 +62,28 @@ impl Tree {
         self.configuration.settings.ana_count = 0;
     }
 
-    /// Counts one more controller, at the positions of its subsystem and its port. Fewer than 31
-    /// are attached there before.
+    /// Counts one more controller, at the positions of its subsystem and its port. Fewer than
+    /// `MAX_CONTROLLERS` are attached there before (`has_room` tells).
     pub fn attach(&mut self, sub: u8, port: u8)
         requires sub_in_use { IsTrue (subsystem_place_taken self.old sub) }
         requires port_in_use { IsTrue (port_place_taken self.old port) }
-        requires sub_room { slice_index self.old.settings.attached.subsystems sub < 31 }
-        requires port_room { slice_index self.old.settings.attached.ports port < 31 }
+        requires sub_room { slice_index self.old.settings.attached.subsystems sub < MAX_CONTROLLERS }
+        requires port_room { slice_index self.old.settings.attached.ports port < MAX_CONTROLLERS }
         ensures { self.new ≡ with_attached self.old sub port }
     {
-        let subsystems = more_at_subsystem(self.configuration.settings.attached.subsystems, sub);
-        let ports = more_at_port(self.configuration.settings.attached.ports, port);
-        self.configuration.settings.attached = Attached { subsystems, ports };
-    }
-
-    fn count_at_subsystem(&self, at: u8) -> u8
-        ensures { result ≡ slice_index self.now.settings.attached.subsystems at }
-    {
-        match self
-            .configuration
-            .settings
-            .attached
-            .subsystems
-            .get(at as usize)
-        {
-            Some(n) => *n,
-            None => 0,
-        }
-    }
-
-    fn count_at_port(&self, at: u8) -> u8
-        ensures { result ≡ slice_index self.now.settings.attached.ports at }
-    {
-        match self.configuration.settings.attached.ports.get(at as usize) {
-            Some(n) => *n,
-            None => 0,
-        }
+        raise_at(&mut self.configuration.settings.attached.subsystems, sub);
+        raise_at(&mut self.configuration.settings.attached.ports, port);
     }
 
     /// Whether one more controller may be attached at these positions.
     pub fn has_room(&self, sub: u8, port: u8) -> bool
-        ensures sub_room { IsTrue result → slice_index self.now.settings.attached.subsystems sub < 31 }
-        ensures port_room { IsTrue result → slice_index self.now.settings.attached.ports port < 31 }
-        ensures room { slice_index self.now.settings.attached.subsystems sub < 31 → slice_index self.now.settings.attached.ports port < 31 → IsTrue result }
+        ensures sub_room { IsTrue result → slice_index self.now.settings.attached.subsystems sub < MAX_CONTROLLERS }
+        ensures port_room { IsTrue result → slice_index self.now.settings.attached.ports port < MAX_CONTROLLERS }
+        ensures room { slice_index self.now.settings.attached.subsystems sub < MAX_CONTROLLERS → slice_index self.now.settings.attached.ports port < MAX_CONTROLLERS → IsTrue result }
     {
-        self.count_at_subsystem(sub) < 31 && self.count_at_port(port) < 31
+        let attached = &self.configuration.settings.attached;
+        count_at(&attached.subsystems, sub) < MAX_CONTROLLERS
+            && count_at(&attached.ports, port) < MAX_CONTROLLERS
     }
 
     /// The phase of a namespace, or `None` exactly where it isn't there.
@@ -197,6 +177,34 @@ impl Tree {
         ensures { result ≡ port_place_taken self.now at }
     {
         self.configuration.settings.ports.has_place(at)
+    }
+
+    /// The hosts, in byte order under `iter`.
+    pub fn hosts(&self) -> &Names
+        ensures { result.now ≡ self.now.settings.hosts }
+    {
+        &self.configuration.settings.hosts
+    }
+
+    /// The subsystems, in byte order of NQN under `iter`.
+    pub fn subsystems(&self) -> &Subsystems
+        ensures { result.now ≡ self.now.settings.subsystems }
+    {
+        &self.configuration.settings.subsystems
+    }
+
+    /// The ports, in the order of IDs under `iter`.
+    pub fn ports(&self) -> &Ports
+        ensures { result.now ≡ self.now.settings.ports }
+    {
+        &self.configuration.settings.ports
+    }
+
+    /// The disks with their holders, by number.
+    pub fn disks(&self) -> &Disks
+        ensures { result.now ≡ self.now.disks }
+    {
+        &self.configuration.disks
     }
 
     /// The count of ANA changes since loading.
