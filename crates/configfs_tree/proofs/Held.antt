@@ -4,12 +4,12 @@ use mathlib.Core.Logic.{⊎_elim}
 use Rattle.std.specs.Str.{bytes_eq}
 use Rattle.std.proofs.lemmas.Slice.Eq.{bytes_eq-Decides}
 use Rattle.std.proofs.lemmas.Bool.{cases_Bool, both_ways, and_parts, and_from, eq-eqb, eqb-true, cases_eq}
-use Rattle.configfs_tree.specs.Holders.{disk_of, holder_of, hold, holds_path, is_holder}
+use Rattle.configfs_rows.specs.Holders.{disk_of, holder_of, hold, holds_path, is_holder}
 use Rattle.configfs_tree.specs.Standing.{Placed, IsHeldBy, HasHolders}
-use Rattle.configfs_tree.specs.declared.disks.DiskRow.{DiskRow}
-use Rattle.configfs_tree.specs.declared.disks.Holder.{Holder}
-use Rattle.configfs_tree.specs.declared.namespaces.NamespaceRow.{NamespaceRow}
-use Rattle.configfs_tree.proofs.Gets.{some_same, none_some}
+use Rattle.configfs_rows.specs.declared.disks.DiskRow.{DiskRow}
+use Rattle.configfs_rows.specs.declared.disks.Holder.{Holder}
+use Rattle.configfs_rows.specs.declared.namespaces.NamespaceRow.{NamespaceRow}
+use Rattle.configfs_rows.proofs.Gets.{some_same, none_some}
 
 abbrev pub Look : Type 0
 Look = List ℕ → ℕ → Option Placed

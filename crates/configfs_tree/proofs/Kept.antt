@@ -7,22 +7,22 @@ use Rattle.std.specs.Cmp.{nat_cmp_total}
 use Rattle.std.specs.Cmp.Lexicographic.{nat_list_cmp_total}
 use Rattle.std.specs.FinMap as map
 use Rattle.std.specs.FinMap.{FinMap, nat_cmp-IsAntisymmetric, slice_cmp-IsAntisymmetric, IsAntisymmetric}
-use Rattle.configfs_tree.specs.Nqns.{name_order}
-use Rattle.configfs_tree.specs.Maps.{update_at}
-use Rattle.configfs_tree.specs.Rows.{put_in}
-use Rattle.configfs_tree.specs.Subsystems.{fresh_subsystem, put_namespace}
-use Rattle.configfs_tree.specs.Holders.{holds_path}
+use Rattle.configfs_rows.specs.Nqns.{name_order}
+use Rattle.configfs_rows.specs.Maps.{update_at}
+use Rattle.configfs_rows.specs.Rows.{put_in}
+use Rattle.configfs_rows.specs.Subsystems.{fresh_subsystem, put_namespace}
+use Rattle.configfs_rows.specs.Holders.{holds_path}
 use Rattle.configfs_tree.specs.Outcome.{with_settings, on_subsystem, on_port, counted}
-use Rattle.configfs_tree.specs.Standing.{Placed, placed_row, placed_in, placed, HasHolders, SubsystemPlaces, IsStanding}
-use Rattle.configfs_tree.specs.declared.limits.TheConstants.{MAX_SUBSYSTEMS, MAX_PORTS}
-use Rattle.configfs_tree.specs.declared.namespaces.NamespaceRow.{NamespaceRow}
-use Rattle.configfs_tree.specs.declared.namespaces.NamespacePut.{NamespacePut}
-use Rattle.configfs_tree.specs.declared.subsystems.SubsystemRow.{SubsystemRow}
-use Rattle.configfs_tree.specs.declared.ports.AnaState.{AnaState}
-use Rattle.configfs_tree.specs.declared.ports.PortRow.{PortRow}
-use Rattle.configfs_tree.specs.declared.tree.Tree.{Tree}
-use Rattle.configfs_tree.proofs.Gets.{some_same, none_some, cases_key, get-insert_at, get-insert_beside, get-remove_at, get-remove_beside, get-update_at, get-update_beside, update_none, was_at}
-use Rattle.configfs_tree.proofs.Placing.{places_updated}
+use Rattle.configfs_tree.specs.Standing.{Placed, placed_row, placed_in, placed, HasHolders, SubsystemPlaces, IsPlaced}
+use Rattle.configfs_rows.specs.declared.limits.TheConstants.{MAX_SUBSYSTEMS, MAX_PORTS}
+use Rattle.configfs_rows.specs.declared.namespaces.NamespaceRow.{NamespaceRow}
+use Rattle.configfs_rows.specs.declared.namespaces.NamespacePut.{NamespacePut}
+use Rattle.configfs_rows.specs.declared.subsystems.SubsystemRow.{SubsystemRow}
+use Rattle.sqe_cqe.specs.declared.rows.Ana.{Ana}
+use Rattle.configfs_rows.specs.declared.ports.PortRow.{PortRow}
+use Rattle.configfs_tree.specs.declared.configuration.Configuration.{Configuration}
+use Rattle.configfs_rows.proofs.Gets.{some_same, none_some, cases_key, get-insert_at, get-insert_beside, get-remove_at, get-remove_beside, get-update_at, get-update_beside, update_none, was_at}
+use Rattle.configfs_rows.proofs.Placing.{places_updated}
 use Rattle.configfs_tree.proofs.Held.{here, cases_name, moved_same, altered_kept, altered_free}
 
 abbrev pub Rows : Type 0
@@ -86,20 +86,20 @@ placed_removed m sub s e empty a j = ⊎_elim
     (cases_name a sub)
 
 -- ---- trees with one part changed
-pub subsystems_changed : (t : Tree) (m : Rows) → SubsystemPlaces m → HasHolders (placed m) t.disks → IsStanding t → IsStanding (with_settings t (record t.settings { subsystems = m }))
+pub subsystems_changed : (t : Configuration) (m : Rows) → SubsystemPlaces m → HasHolders (placed m) t.disks → IsPlaced t → IsPlaced (with_settings t (record t.settings { subsystems = m }))
 subsystems_changed t m places holders h = record { subsystems = places; ports = h.ports; group_one = h.group_one; holders = holders }
 
-pub count_changed : (t : Tree) → IsStanding t → IsStanding (counted t)
+pub count_changed : (t : Configuration) → IsPlaced t → IsPlaced (counted t)
 count_changed t h = record { subsystems = h.subsystems; ports = h.ports; group_one = h.group_one; holders = h.holders }
 
 -- an attribute or a link of a subsystem
-pub subsystem_put : (t : Tree) (sub : List ℕ) (f : SubsystemRow → SubsystemRow) → ((s : SubsystemRow) → (f s).nqn ≡ s.nqn) → ((s : SubsystemRow) → (f s).at ≡ s.at) → ((s : SubsystemRow) (j : ℕ) → placed_in j (Some (f s)) ≡ placed_in j (Some s)) → IsStanding t → IsStanding (on_subsystem t sub f)
+pub subsystem_put : (t : Configuration) (sub : List ℕ) (f : SubsystemRow → SubsystemRow) → ((s : SubsystemRow) → (f s).nqn ≡ s.nqn) → ((s : SubsystemRow) → (f s).at ≡ s.at) → ((s : SubsystemRow) (j : ℕ) → placed_in j (Some (f s)) ≡ placed_in j (Some s)) → IsPlaced t → IsPlaced (on_subsystem t sub f)
 subsystem_put t sub f keys ats same h = subsystems_changed t (update_at t.settings.subsystems sub f)
     (places_updated nat_list_cmp_total names_same (λ s. s.nqn) (λ s. s.at) MAX_SUBSYSTEMS t.settings.subsystems sub f keys ats h.subsystems)
     (moved_same (placed t.settings.subsystems) (placed (update_at t.settings.subsystems sub f)) t.disks (placed_attr t.settings.subsystems sub f same) h.holders) h
 
 -- a namespace that keeps its path, and isn't enabled unless it was
-pub namespace_put : (t : Tree) (sub : List ℕ) (nsid : ℕ) (put : NamespacePut) (s : SubsystemRow) (n : NamespaceRow) → map.get t.settings.subsystems sub ≡ Some s → map.get s.namespaces nsid ≡ Some n → (put_in put n).device_path ≡ n.device_path → (IsTrue (put_in put n).enabled → IsTrue n.enabled) → IsStanding t → IsStanding (on_subsystem t sub (put_namespace nsid put))
+pub namespace_put : (t : Configuration) (sub : List ℕ) (nsid : ℕ) (put : NamespacePut) (s : SubsystemRow) (n : NamespaceRow) → map.get t.settings.subsystems sub ≡ Some s → map.get s.namespaces nsid ≡ Some n → (put_in put n).device_path ≡ n.device_path → (IsTrue (put_in put n).enabled → IsTrue n.enabled) → IsPlaced t → IsPlaced (on_subsystem t sub (put_namespace nsid put))
 namespace_put t sub nsid put s n e f path_is enabled_is h =
     let m = t.settings.subsystems in
     let g = λ (ns : Spaces). update_at ns nsid (put_in put) in
@@ -112,7 +112,7 @@ namespace_put t sub nsid put s n e f path_is enabled_is h =
     path_is enabled_is h.holders) h
 
 -- a namespace that isn't live, before and after
-pub namespace_free : (t : Tree) (sub : List ℕ) (nsid : ℕ) (g : Spaces → Spaces) (s : SubsystemRow) → map.get t.settings.subsystems sub ≡ Some s → ((ns : Spaces) (j : ℕ) → (j ≡ nsid → ⊥) → map.get (g ns) j ≡ map.get ns j) → ((n : NamespaceRow) → map.get s.namespaces nsid ≡ Some n → holds_path t.disks s.at nsid n.device_path ≡ false) → ((n : NamespaceRow) → map.get (g s.namespaces) nsid ≡ Some n → n.enabled ≡ false) → IsStanding t → IsStanding (on_subsystem t sub (with_spaces g))
+pub namespace_free : (t : Configuration) (sub : List ℕ) (nsid : ℕ) (g : Spaces → Spaces) (s : SubsystemRow) → map.get t.settings.subsystems sub ≡ Some s → ((ns : Spaces) (j : ℕ) → (j ≡ nsid → ⊥) → map.get (g ns) j ≡ map.get ns j) → ((n : NamespaceRow) → map.get s.namespaces nsid ≡ Some n → holds_path t.disks s.at nsid n.device_path ≡ false) → ((n : NamespaceRow) → map.get (g s.namespaces) nsid ≡ Some n → n.enabled ≡ false) → IsPlaced t → IsPlaced (on_subsystem t sub (with_spaces g))
 namespace_free t sub nsid g s e beside was_free is_off h =
     let m = t.settings.subsystems in
     subsystems_changed t (update_at m sub (with_spaces g))
@@ -130,7 +130,7 @@ namespace_free t sub nsid g s e beside was_free is_off h =
       off_row x (Some n) f got = subst (λ (y : Placed). y.row.enabled ≡ false) (some_same (here s.at n) x got) (is_off n f)
 
 -- ---- ports
-pub port_put : (t : Tree) (id : ℕ) (f : PortRow → PortRow) → ((p : PortRow) → (f p).id ≡ p.id) → ((p : PortRow) → (f p).at ≡ p.at) → ((p : PortRow) → IsTrue (map.contains_key p.groups 1) → IsTrue (map.contains_key (f p).groups 1)) → IsStanding t → IsStanding (on_port t id f)
+pub port_put : (t : Configuration) (id : ℕ) (f : PortRow → PortRow) → ((p : PortRow) → (f p).id ≡ p.id) → ((p : PortRow) → (f p).at ≡ p.at) → ((p : PortRow) → IsTrue (map.contains_key p.groups 1) → IsTrue (map.contains_key (f p).groups 1)) → IsPlaced t → IsPlaced (on_port t id f)
 port_put t id f keys ats ones h = record {
   subsystems = h.subsystems;
   ports = places_updated nat_cmp_total nat_cmp-IsAntisymmetric (λ (p : PortRow). p.id) (λ (p : PortRow). p.at) MAX_PORTS t.settings.ports id f keys ats h.ports;
@@ -144,7 +144,7 @@ port_put t id f keys ats ones h = record {
   holders = h.holders;
 }
 
-pub one_put : (p : PortRow) (group : ℕ) (state : AnaState) → IsTrue (map.contains_key p.groups 1) → IsTrue (map.contains_key (map.insert p.groups group state) 1)
+pub one_put : (p : PortRow) (group : ℕ) (state : Ana) → IsTrue (map.contains_key p.groups 1) → IsTrue (map.contains_key (map.insert p.groups group state) 1)
 one_put p group state one = ⊎_elim
     (λ (e : 1 ≡ group). subst (λ (q : ℕ). IsTrue (map.contains_key (map.insert p.groups group state) q)) (sym e) (ap is_some (get-insert_at nat_cmp_total nat_cmp-IsAntisymmetric p.groups group state)))
     (λ ne. ap is_some (get-insert_beside nat_cmp_total nat_cmp-IsAntisymmetric p.groups group state 1 ne) ∙ one)

@@ -6,16 +6,16 @@ use Rattle.std.specs.Cmp.Lexicographic.{nat_list_cmp_total}
 use Rattle.std.specs.Ordering.{nat_cmp}
 use Rattle.std.specs.FinMap as map
 use Rattle.std.specs.FinMap.{FinMap, nat_cmp-IsAntisymmetric}
-use Rattle.configfs_tree.specs.Maps.{update_at}
-use Rattle.configfs_tree.specs.Rows.{put_in, fresh_namespace}
-use Rattle.configfs_tree.specs.Subsystems.{put_namespace, add_namespace, remove_namespace}
+use Rattle.configfs_rows.specs.Maps.{update_at}
+use Rattle.configfs_rows.specs.Rows.{put_in, fresh_namespace}
+use Rattle.configfs_rows.specs.Subsystems.{put_namespace, add_namespace, remove_namespace}
 use Rattle.configfs_tree.specs.Standing.{Placed, placed_row, placed}
 use Rattle.configfs_tree.specs.Told.{subsystem_front}
-use Rattle.configfs_tree.specs.declared.namespaces.NamespaceRow.{NamespaceRow}
-use Rattle.configfs_tree.specs.declared.namespaces.NamespacePut.{NamespacePut}
-use Rattle.configfs_tree.specs.declared.subsystems.SubsystemRow.{SubsystemRow}
-use Rattle.configfs_tree.specs.declared.ports.PortRow.{PortRow}
-use Rattle.configfs_tree.proofs.Gets.{some_same, none_some, cases_key, get-insert_at, get-insert_beside, get-remove_at, get-remove_beside, get-update_at, get-update_beside, was_at}
+use Rattle.configfs_rows.specs.declared.namespaces.NamespaceRow.{NamespaceRow}
+use Rattle.configfs_rows.specs.declared.namespaces.NamespacePut.{NamespacePut}
+use Rattle.configfs_rows.specs.declared.subsystems.SubsystemRow.{SubsystemRow}
+use Rattle.configfs_rows.specs.declared.ports.PortRow.{PortRow}
+use Rattle.configfs_rows.proofs.Gets.{some_same, none_some, cases_key, get-insert_at, get-insert_beside, get-remove_at, get-remove_beside, get-update_at, get-update_beside, was_at}
 use Rattle.configfs_tree.proofs.Held.{here, Slot, is_slot, no_slot, cases_slot, cases_name}
 use Rattle.configfs_tree.proofs.Kept.{Rows, Spaces, names_same, with_spaces, placed_others, placed_here, placed_was}
 

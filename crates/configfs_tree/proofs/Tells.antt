@@ -6,21 +6,21 @@ use Rattle.std.specs.declared.cmp.Ordering.{Ordering}
 use Rattle.std.specs.Cmp.{IsTotalOrder, nat_cmp_total}
 use Rattle.std.specs.FinMap as map
 use Rattle.std.specs.FinMap.{FinMap, IsAntisymmetric, nat_cmp-IsAntisymmetric}
-use Rattle.configfs_tree.specs.Maps.{update_at}
-use Rattle.configfs_tree.specs.Rows.{put_in}
+use Rattle.configfs_rows.specs.Maps.{update_at}
+use Rattle.configfs_rows.specs.Rows.{put_in}
 use Rattle.configfs_tree.specs.Outcome.{nothing, touching, namespace_change, port_change, group_change, on_port, counted}
 use Rattle.configfs_tree.specs.Standing.{Placed, placed}
 use Rattle.configfs_tree.specs.Told.{Tells, NamesSpace, OneOf, OneRow, enabled_row, subsystem_front, port_front, group_in}
-use Rattle.configfs_tree.specs.declared.disks.DiskRow.{DiskRow}
+use Rattle.configfs_rows.specs.declared.disks.DiskRow.{DiskRow}
 use Rattle.configfs_tree.specs.declared.edits.Touched.{Touched}
 use Rattle.configfs_tree.specs.declared.edits.Touched.TheVariants as touches
-use Rattle.configfs_tree.specs.declared.namespaces.NamespaceRow.{NamespaceRow}
-use Rattle.configfs_tree.specs.declared.namespaces.NamespacePut.TheVariants.{Group, Enabled}
-use Rattle.configfs_tree.specs.declared.subsystems.SubsystemRow.{SubsystemRow}
-use Rattle.configfs_tree.specs.declared.ports.PortRow.{PortRow}
-use Rattle.configfs_tree.specs.declared.tree.Settings.{Settings}
-use Rattle.configfs_tree.specs.declared.tree.Tree.{Tree}
-use Rattle.configfs_tree.proofs.Gets.{some_same, none_some, cases_key, get-insert_at, get-remove_at, get-update_at, get-update_beside}
+use Rattle.configfs_rows.specs.declared.namespaces.NamespaceRow.{NamespaceRow}
+use Rattle.configfs_rows.specs.declared.namespaces.NamespacePut.TheVariants.{Group, Enabled}
+use Rattle.configfs_rows.specs.declared.subsystems.SubsystemRow.{SubsystemRow}
+use Rattle.configfs_rows.specs.declared.ports.PortRow.{PortRow}
+use Rattle.configfs_tree.specs.declared.configuration.Settings.{Settings}
+use Rattle.configfs_tree.specs.declared.configuration.Configuration.{Configuration}
+use Rattle.configfs_rows.proofs.Gets.{some_same, none_some, cases_key, get-insert_at, get-remove_at, get-update_at, get-update_beside}
 use Rattle.configfs_tree.proofs.Held.{here, Slot, is_slot, no_slot, cases_slot, cases_name}
 use Rattle.configfs_tree.proofs.Kept.{Rows}
 use Rattle.configfs_tree.proofs.Slots.{Ports, OneSlot, slot_look, slot_both, same_ports, other_ports}
@@ -40,7 +40,7 @@ module _ {K X : Type 0} {R : K → K → Ordering} (o : IsTotalOrder R) (same : 
   update_differs m k f x found ne e = ne (some_same (f x) x (sym (get-update_at o same m k f x found) ∙ (ap (λ (n : FinMap R X). map.get n k) e ∙ found)))
 
 -- ---- rows that are as before
-rows_same : (t u : Tree) (touched : Touched) → u.settings.subsystems ≡ t.settings.subsystems → u.settings.ports ≡ t.settings.ports → OneRow t u touched
+rows_same : (t u : Configuration) (touched : Touched) → u.settings.subsystems ≡ t.settings.subsystems → u.settings.ports ≡ t.settings.ports → OneRow t u touched
 rows_same t u touched subs ports = record {
   spaces = λ a j. inl (ap (λ (m : Rows). placed m a j) subs);
   subsystems = λ a. inl (ap (λ (m : Rows). subsystem_front (map.get m a)) subs);
@@ -56,7 +56,7 @@ moved_to m w k q x one is = ⊎_elim
     one
 
 -- a subsystem is made, removed or changed beside its namespaces
-subsystem_row : (t u : Tree) (sub : List ℕ) (s : SubsystemRow) → u.settings.ports ≡ t.settings.ports → ((a : List ℕ) (j : ℕ) → placed u.settings.subsystems a j ≡ placed t.settings.subsystems a j) → OneOf (map.get t.settings.subsystems sub) (map.get u.settings.subsystems sub) s → ((a : List ℕ) → (a ≡ sub → ⊥) → map.get u.settings.subsystems a ≡ map.get t.settings.subsystems a) → OneRow t u (touches.Subsystem s.at)
+subsystem_row : (t u : Configuration) (sub : List ℕ) (s : SubsystemRow) → u.settings.ports ≡ t.settings.ports → ((a : List ℕ) (j : ℕ) → placed u.settings.subsystems a j ≡ placed t.settings.subsystems a j) → OneOf (map.get t.settings.subsystems sub) (map.get u.settings.subsystems sub) s → ((a : List ℕ) → (a ≡ sub → ⊥) → map.get u.settings.subsystems a ≡ map.get t.settings.subsystems a) → OneRow t u (touches.Subsystem s.at)
 subsystem_row t u sub s ports same one beside = record {
   spaces = λ a j. inl (same a j);
   subsystems = λ a. ⊎_elim
@@ -68,7 +68,7 @@ subsystem_row t u sub s ports same one beside = record {
 }
 
 -- a namespace is made, removed or changed
-space_row : (t u : Tree) (sub : List ℕ) (nsid : ℕ) (o v : Option Placed) (x : Placed) → u.settings.ports ≡ t.settings.ports → OneSlot t.settings.subsystems u.settings.subsystems sub nsid o v → OneOf o v x → OneRow t u (touches.Namespace x.at nsid)
+space_row : (t u : Configuration) (sub : List ℕ) (nsid : ℕ) (o v : Option Placed) (x : Placed) → u.settings.ports ≡ t.settings.ports → OneSlot t.settings.subsystems u.settings.subsystems sub nsid o v → OneOf o v x → OneRow t u (touches.Namespace x.at nsid)
 space_row t u sub nsid o v x ports one is = record {
   spaces = λ a j. there a j (cases_slot sub nsid a j);
   subsystems = λ a. inl (one.fronts a);
@@ -89,8 +89,8 @@ space_row t u sub nsid o v x ports one is = record {
   there a j (is_slot f g) = inr (x, ⊎_elim (λ e. inl (to_slot m o a j one.before f g ∙ e)) (λ e. inr (to_slot w v a j one.after f g ∙ e)) is, ap (λ (i : ℕ). touches.Namespace x.at i) (sym g))
 
 -- a port is made, removed or changed beside its ANA groups
-port_row : (t u : Tree) (id : ℕ) (p : PortRow) → u.settings.subsystems ≡ t.settings.subsystems → OneOf (map.get t.settings.ports id) (map.get u.settings.ports id) p → ((k : ℕ) → (k ≡ id → ⊥) → map.get u.settings.ports k ≡ map.get t.settings.ports k) → OneRow t u (touches.Port p.at)
-port_row t u id p subs one beside = record {
+port_row : (t u : Configuration) (id : ℕ) (p : PortRow) → u.settings.subsystems ≡ t.settings.subsystems → OneOf (map.get t.settings.ports id) (map.get u.settings.ports id) p → ((k : ℕ) → (k ≡ id → ⊥) → map.get u.settings.ports k ≡ map.get t.settings.ports k) → ((j : ℕ) → (j ≡ 1 → ⊥) → group_in (map.get u.settings.ports id) j ≡ group_in (map.get t.settings.ports id) j) → OneRow t u (touches.Port p.at)
+port_row t u id p subs one beside others = record {
   spaces = λ a j. inl (ap (λ (m : Rows). placed m a j) subs);
   subsystems = λ a. inl (ap (λ (m : Rows). subsystem_front (map.get m a)) subs);
   ports = λ k. ⊎_elim
@@ -98,13 +98,16 @@ port_row t u id p subs one beside = record {
       (λ ne. inl (ap port_front (beside k ne)))
       (cases_key nat_cmp_total nat_cmp-IsAntisymmetric k id);
   groups = λ k group. ⊎_elim
-      (λ is. inr (p, moved_to t.settings.ports u.settings.ports id k p one is, inr refl))
+      (λ is. ⊎_elim
+      (λ first. inr (p, moved_to t.settings.ports u.settings.ports id k p one is, inr (refl, first)))
+      (λ ne. inl (ap (λ (y : ℕ). group_in (map.get u.settings.ports y) group) is ∙ (others group ne ∙ ap (λ (y : ℕ). group_in (map.get t.settings.ports y) group) (sym is))))
+      (cases_key nat_cmp_total nat_cmp-IsAntisymmetric group 1))
       (λ ne. inl (ap (λ (o : Option PortRow). group_in o group) (beside k ne)))
       (cases_key nat_cmp_total nat_cmp-IsAntisymmetric k id);
 }
 
 -- an ANA group is made, removed or changed
-group_row : (t u : Tree) (id group : ℕ) (p q : PortRow) → u.settings.subsystems ≡ t.settings.subsystems → map.get t.settings.ports id ≡ Some p → map.get u.settings.ports id ≡ Some q → port_front (Some q) ≡ port_front (Some p) → ((j : ℕ) → (j ≡ group → ⊥) → map.get q.groups j ≡ map.get p.groups j) → ((k : ℕ) → (k ≡ id → ⊥) → map.get u.settings.ports k ≡ map.get t.settings.ports k) → OneRow t u (touches.Group p.at group)
+group_row : (t u : Configuration) (id group : ℕ) (p q : PortRow) → u.settings.subsystems ≡ t.settings.subsystems → map.get t.settings.ports id ≡ Some p → map.get u.settings.ports id ≡ Some q → port_front (Some q) ≡ port_front (Some p) → ((j : ℕ) → (j ≡ group → ⊥) → map.get q.groups j ≡ map.get p.groups j) → ((k : ℕ) → (k ≡ id → ⊥) → map.get u.settings.ports k ≡ map.get t.settings.ports k) → OneRow t u (touches.Group p.at group)
 group_row t u id group p q subs e f front others beside = record {
   spaces = λ a j. inl (ap (λ (m : Rows). placed m a j) subs);
   subsystems = λ a. inl (ap (λ (m : Rows). subsystem_front (map.get m a)) subs);
@@ -125,7 +128,7 @@ group_row t u id group p q subs e f front others beside = record {
 group_same : (m : Rows) (a : List ℕ) (j : ℕ) (x y : Placed) → placed m a j ≡ Some x → placed m a j ≡ Some y → y.row.group ≡ x.row.group
 group_same m a j x y e f = ap (λ (z : Placed). z.row.group) (some_same y x (sym f ∙ e))
 
-pub tells_nothing : (t : Tree) → Tells t t nothing
+pub tells_nothing : (t : Configuration) → Tells t t nothing
 tells_nothing t = record {
   published = inr (refl, refl);
   spaces = λ a j. inl refl;
@@ -150,7 +153,7 @@ SameGroups m w = (a : List ℕ) (j : ℕ) (x y : Placed) → placed m a j ≡ So
 abbrev SameEnabled : Rows → Rows → Type 0
 SameEnabled m w = (a : List ℕ) (j : ℕ) → enabled_row (placed w a j) ≡ enabled_row (placed m a j)
 
-tells_touching : (t u : Tree) (touched : Touched) → (u.settings ≡ t.settings → ⊥) → SameEnabled t.settings.subsystems u.settings.subsystems → SameGroups t.settings.subsystems u.settings.subsystems → SamePorts t.settings.ports u.settings.ports → u.settings.ana_count ≡ t.settings.ana_count → OneRow t u touched → Tells t u (touching touched)
+tells_touching : (t u : Configuration) (touched : Touched) → (u.settings ≡ t.settings → ⊥) → SameEnabled t.settings.subsystems u.settings.subsystems → SameGroups t.settings.subsystems u.settings.subsystems → SamePorts t.settings.ports u.settings.ports → u.settings.ana_count ≡ t.settings.ana_count → OneRow t u touched → Tells t u (touching touched)
 tells_touching t u touched differs on groups ports count rows = record {
   published = inl (refl, differs);
   spaces = λ a j. inl (on a j);
@@ -165,7 +168,7 @@ tells_touching t u touched differs on groups ports count rows = record {
   rows = rows;
 }
 
-pub hosts_tell : (t : Tree) (settings : Settings) (touched : Touched) → settings.subsystems ≡ t.settings.subsystems → settings.ports ≡ t.settings.ports → settings.ana_count ≡ t.settings.ana_count → (settings.hosts ≡ t.settings.hosts → ⊥) → Tells t (record t { settings = settings }) (touching touched)
+pub hosts_tell : (t : Configuration) (settings : Settings) (touched : Touched) → settings.subsystems ≡ t.settings.subsystems → settings.ports ≡ t.settings.ports → settings.ana_count ≡ t.settings.ana_count → (settings.hosts ≡ t.settings.hosts → ⊥) → Tells t (record t { settings = settings }) (touching touched)
 hosts_tell t settings touched subs ports count differs = tells_touching t (record t { settings = settings }) touched (λ e. differs (ap (λ (s : Settings). s.hosts) e))
     (λ a j. ap (λ (m : Rows). enabled_row (placed m a j)) subs)
     (λ a j x y e f. group_same t.settings.subsystems a j x y e (sym (ap (λ (m : Rows). placed m a j) subs) ∙ f))
@@ -173,20 +176,20 @@ hosts_tell t settings touched subs ports count differs = tells_touching t (recor
     count (rows_same t (record t { settings = settings }) touched subs ports)
 
 -- ---- subsystems and namespaces
-abbrev pub with_rows : Tree → Rows → List DiskRow → ℕ → Tree
+abbrev pub with_rows : Configuration → Rows → List DiskRow → ℕ → Configuration
 with_rows t w disks count = record { settings = record t.settings { subsystems = w; ana_count = count }; disks = disks }
 
-pub rows_tell : (t : Tree) (w : Rows) (sub : List ℕ) (s : SubsystemRow) → OneOf (map.get t.settings.subsystems sub) (map.get w sub) s → ((a : List ℕ) → (a ≡ sub → ⊥) → map.get w a ≡ map.get t.settings.subsystems a) → (w ≡ t.settings.subsystems → ⊥) → ((a : List ℕ) (j : ℕ) → placed w a j ≡ placed t.settings.subsystems a j) → Tells t (with_rows t w t.disks t.settings.ana_count) (touching (touches.Subsystem s.at))
+pub rows_tell : (t : Configuration) (w : Rows) (sub : List ℕ) (s : SubsystemRow) → OneOf (map.get t.settings.subsystems sub) (map.get w sub) s → ((a : List ℕ) → (a ≡ sub → ⊥) → map.get w a ≡ map.get t.settings.subsystems a) → (w ≡ t.settings.subsystems → ⊥) → ((a : List ℕ) (j : ℕ) → placed w a j ≡ placed t.settings.subsystems a j) → Tells t (with_rows t w t.disks t.settings.ana_count) (touching (touches.Subsystem s.at))
 rows_tell t w sub s one beside differs same = tells_touching t (with_rows t w t.disks t.settings.ana_count) (touches.Subsystem s.at) (λ e. differs (ap (λ (s : Settings). s.subsystems) e))
     (λ a j. ap enabled_row (same a j))
     (λ a j x y e f. group_same t.settings.subsystems a j x y e (sym (same a j) ∙ f))
     (λ id p q e f. same_ports t.settings.ports id p q e f) refl
     (subsystem_row t (with_rows t w t.disks t.settings.ana_count) sub s refl same one beside)
 
-slot_differs : (t : Tree) (w : Rows) (sub : List ℕ) (nsid : ℕ) (o v : Option Placed) → OneSlot t.settings.subsystems w sub nsid o v → (v ≡ o → ⊥) → w ≡ t.settings.subsystems → ⊥
+slot_differs : (t : Configuration) (w : Rows) (sub : List ℕ) (nsid : ℕ) (o v : Option Placed) → OneSlot t.settings.subsystems w sub nsid o v → (v ≡ o → ⊥) → w ≡ t.settings.subsystems → ⊥
 slot_differs t w sub nsid o v one ne e = ne (sym one.after ∙ (ap (λ (r : Rows). placed r sub nsid) e ∙ one.before))
 
-pub slot_tells : (t : Tree) (w : Rows) (sub : List ℕ) (nsid : ℕ) (o v : Option Placed) (x : Placed) → OneOf o v x → OneSlot t.settings.subsystems w sub nsid o v → (v ≡ o → ⊥) → enabled_row v ≡ enabled_row o → ((x y : Placed) → o ≡ Some x → v ≡ Some y → y.row.group ≡ x.row.group) → Tells t (with_rows t w t.disks t.settings.ana_count) (touching (touches.Namespace x.at nsid))
+pub slot_tells : (t : Configuration) (w : Rows) (sub : List ℕ) (nsid : ℕ) (o v : Option Placed) (x : Placed) → OneOf o v x → OneSlot t.settings.subsystems w sub nsid o v → (v ≡ o → ⊥) → enabled_row v ≡ enabled_row o → ((x y : Placed) → o ≡ Some x → v ≡ Some y → y.row.group ≡ x.row.group) → Tells t (with_rows t w t.disks t.settings.ana_count) (touching (touches.Namespace x.at nsid))
 slot_tells t w sub nsid o v x is one ne on groups = tells_touching t (with_rows t w t.disks t.settings.ana_count) (touches.Namespace x.at nsid)
     (λ e. slot_differs t w sub nsid o v one ne (ap (λ (s : Settings). s.subsystems) e))
     (λ a j. slot_look t.settings.subsystems w sub nsid o v one enabled_row on a j)
@@ -199,7 +202,7 @@ not_itself true e = both_ways false refl e
 not_itself false e = both_ways true e refl
 
 -- a namespace gets enabled, or begins to drain
-pub turn_tells : (t : Tree) (w : Rows) (disks : List DiskRow) (sub : List ℕ) (nsid at : ℕ) (n : NamespaceRow) (drains : Bool) → n.enabled ≡ drains → OneSlot t.settings.subsystems w sub nsid (Some (here at n)) (Some (here at (put_in (Enabled (not drains)) n))) → Tells t (with_rows t w disks t.settings.ana_count) (namespace_change at nsid drains)
+pub turn_tells : (t : Configuration) (w : Rows) (disks : List DiskRow) (sub : List ℕ) (nsid at : ℕ) (n : NamespaceRow) (drains : Bool) → n.enabled ≡ drains → OneSlot t.settings.subsystems w sub nsid (Some (here at n)) (Some (here at (put_in (Enabled (not drains)) n))) → Tells t (with_rows t w disks t.settings.ana_count) (namespace_change at nsid drains)
 turn_tells t w disks sub nsid at n drains was one =
     let m = t.settings.subsystems in
     let x = here at n in
@@ -243,7 +246,7 @@ turn_tells t w disks sub nsid at n drains was one =
       })
 
 -- a namespace comes into another ANA group
-pub move_tells : (t : Tree) (w : Rows) (sub : List ℕ) (nsid at : ℕ) (n : NamespaceRow) (group : ℕ) → (n.group ≡ group → ⊥) → OneSlot t.settings.subsystems w sub nsid (Some (here at n)) (Some (here at (put_in (Group group) n))) → Tells t (counted (with_rows t w t.disks t.settings.ana_count)) (group_change at nsid)
+pub move_tells : (t : Configuration) (w : Rows) (sub : List ℕ) (nsid at : ℕ) (n : NamespaceRow) (group : ℕ) → (n.group ≡ group → ⊥) → OneSlot t.settings.subsystems w sub nsid (Some (here at n)) (Some (here at (put_in (Group group) n))) → Tells t (counted (with_rows t w t.disks t.settings.ana_count)) (group_change at nsid)
 move_tells t w sub nsid at n group ne one =
     let m = t.settings.subsystems in
     let x = here at n in
@@ -277,18 +280,18 @@ move_tells t w sub nsid at n group ne one =
     }
 
 -- ---- ports
-abbrev pub with_ports : Tree → Ports → Tree
+abbrev pub with_ports : Configuration → Ports → Configuration
 with_ports t w = record t { settings = record t.settings { ports = w } }
 
-pub ports_tell : (t : Tree) (w : Ports) (id : ℕ) (p : PortRow) → OneOf (map.get t.settings.ports id) (map.get w id) p → ((k : ℕ) → (k ≡ id → ⊥) → map.get w k ≡ map.get t.settings.ports k) → (w ≡ t.settings.ports → ⊥) → SamePorts t.settings.ports w → Tells t (with_ports t w) (touching (touches.Port p.at))
-ports_tell t w id p one beside differs same = tells_touching t (with_ports t w) (touches.Port p.at) (λ e. differs (ap (λ (s : Settings). s.ports) e))
+pub ports_tell : (t : Configuration) (w : Ports) (id : ℕ) (p : PortRow) → OneOf (map.get t.settings.ports id) (map.get w id) p → ((k : ℕ) → (k ≡ id → ⊥) → map.get w k ≡ map.get t.settings.ports k) → ((j : ℕ) → (j ≡ 1 → ⊥) → group_in (map.get w id) j ≡ group_in (map.get t.settings.ports id) j) → (w ≡ t.settings.ports → ⊥) → SamePorts t.settings.ports w → Tells t (with_ports t w) (touching (touches.Port p.at))
+ports_tell t w id p one beside others differs same = tells_touching t (with_ports t w) (touches.Port p.at) (λ e. differs (ap (λ (s : Settings). s.ports) e))
     (λ a j. refl)
     (λ a j x y e f. group_same t.settings.subsystems a j x y e f)
     same refl
-    (port_row t (with_ports t w) id p refl one beside)
+    (port_row t (with_ports t w) id p refl one beside others)
 
 -- ANA groups of a port differ
-pub port_tells : (t : Tree) (id group : ℕ) (f : PortRow → PortRow) (r : PortRow) → map.get t.settings.ports id ≡ Some r → ((f r).groups ≡ r.groups → ⊥) → port_front (Some (f r)) ≡ port_front (Some r) → ((j : ℕ) → (j ≡ group → ⊥) → map.get (f r).groups j ≡ map.get r.groups j) → Tells t (counted (on_port t id f)) (port_change r.at group)
+pub port_tells : (t : Configuration) (id group : ℕ) (f : PortRow → PortRow) (r : PortRow) → map.get t.settings.ports id ≡ Some r → ((f r).groups ≡ r.groups → ⊥) → port_front (Some (f r)) ≡ port_front (Some r) → ((j : ℕ) → (j ≡ group → ⊥) → map.get (f r).groups j ≡ map.get r.groups j) → Tells t (counted (on_port t id f)) (port_change r.at group)
 port_tells t id group f r e ne front others =
     let m = t.settings.ports in
     record {

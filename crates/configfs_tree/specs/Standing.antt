@@ -1,23 +1,19 @@
 -- The standing facts, which hold of every tree that calls reach.
-use Rattle.std.specs.Prelude.{◌≡◌, ◌<◌, ◌↔◌, ℕ, ◌||◌, Bool, List, Option, Some, None, IsTrue}
-use Rattle.std.specs.declared.cmp.Ordering.{Ordering}
+use Rattle.std.specs.Prelude.{◌≡◌, ◌↔◌, ℕ, ◌||◌, Bool, List, Option, Some, None, IsTrue}
+use Rattle.std.specs.List.{slice_get}
 use Rattle.std.specs.FinMap as map
 use Rattle.std.specs.FinMap.{FinMap}
-use Rattle.configfs_tree.specs.Nqns.{name_order}
-use Rattle.configfs_tree.specs.Holders.{disk_of, holds_path, is_held}
-use Rattle.configfs_tree.specs.declared.limits.TheConstants.{MAX_SUBSYSTEMS, MAX_PORTS}
-use Rattle.configfs_tree.specs.declared.disks.DiskRow.{DiskRow}
-use Rattle.configfs_tree.specs.declared.disks.Holder.{Holder}
-use Rattle.configfs_tree.specs.declared.namespaces.NamespaceRow.{NamespaceRow}
-use Rattle.configfs_tree.specs.declared.subsystems.SubsystemRow.{SubsystemRow}
-use Rattle.configfs_tree.specs.declared.ports.PortRow.{PortRow}
-use Rattle.configfs_tree.specs.declared.tree.Tree.{Tree}
-
--- the rows of a map have their keys, and their positions are in range and distinct
-pub record HasPlaces {K X : Type 0} {R : K → K → Ordering} (key : X → K) (at : X → ℕ) (most : ℕ) (m : FinMap R X) : Type 0 where
-  pub own_key : (k : K) (x : X) → map.get m k ≡ Some x → key x ≡ k
-  pub below : (k : K) (x : X) → map.get m k ≡ Some x → at x < most
-  pub apart : (j k : K) (x y : X) → map.get m j ≡ Some x → map.get m k ≡ Some y → at x ≡ at y → j ≡ k
+use Rattle.configfs_rows.specs.Nqns.{name_order}
+use Rattle.configfs_rows.specs.Places.{HasPlaces}
+use Rattle.configfs_rows.specs.Holders.{disk_of, holds_path, is_held}
+use Rattle.configfs_rows.specs.declared.limits.TheConstants.{MAX_SUBSYSTEMS, MAX_PORTS}
+use Rattle.configfs_rows.specs.declared.disks.DiskRow.{DiskRow}
+use Rattle.configfs_rows.specs.declared.disks.Holder.{Holder}
+use Rattle.configfs_rows.specs.declared.namespaces.NamespaceRow.{NamespaceRow}
+use Rattle.configfs_rows.specs.declared.subsystems.SubsystemRow.{SubsystemRow}
+use Rattle.configfs_rows.specs.declared.ports.PortRow.{PortRow}
+use Rattle.configfs_tree.specs.Sound.{IsSound}
+use Rattle.configfs_tree.specs.declared.configuration.Configuration.{Configuration}
 
 -- a namespace with the position of its subsystem
 pub record Placed : Type 0 where
@@ -53,20 +49,40 @@ pub record HasHolders (look : List ℕ → ℕ → Option Placed) (disks : List 
 abbrev pub SubsystemPlaces : FinMap name_order SubsystemRow → Type 0
 SubsystemPlaces m = HasPlaces (λ s. s.nqn) (λ s. s.at) MAX_SUBSYSTEMS m
 
-pub record IsStanding (t : Tree) : Type 0 where
+-- rows stand at positions of their own, and holders and namespaces agree
+pub record IsPlaced (t : Configuration) : Type 0 where
   pub subsystems : SubsystemPlaces t.settings.subsystems
   pub ports : HasPlaces (λ (p : PortRow). p.id) (λ (p : PortRow). p.at) MAX_PORTS t.settings.ports
   -- group 1 of a port is there
   pub group_one : (id : ℕ) (p : PortRow) → map.get t.settings.ports id ≡ Some p → IsTrue (map.contains_key p.groups 1)
   pub holders : HasHolders (placed t.settings.subsystems) t.disks
 
+pub record IsStanding (t : Configuration) : Type 0 where
+  pub placed : IsPlaced t
+  pub sound : IsSound t
+
 -- ---- what the last row of set enable to 1 asks, in other words
 -- the namespace is enabled, or it holds the disk of its path: it is draining
 abbrev pub is_live : List DiskRow → ℕ → Placed → Bool
 is_live disks nsid x = x.row.enabled || holds_path disks x.at nsid x.row.device_path
 
+-- a live namespace holds the disk whose number it keeps, and that disk has its path
+pub record HoldsDisk (t : Configuration) (nsid : ℕ) (x : Placed) : Type 0 where
+  pub number : ℕ
+  pub disk : DiskRow
+  pub holder : Holder
+  pub numbered : x.row.disk ≡ Some number
+  pub found : slice_get t.disks number ≡ Some disk
+  pub same_path : x.row.device_path ≡ Some disk.path
+  pub held : disk.holder ≡ Some holder
+  pub holder_sub : holder.sub ≡ x.at
+  pub holder_nsid : holder.nsid ≡ nsid
+
+abbrev pub LiveHoldsDisk : Configuration → List ℕ → ℕ → Type 0
+LiveHoldsDisk t sub nsid = (x : Placed) → placed t.settings.subsystems sub nsid ≡ Some x → IsTrue (is_live t.disks nsid x) → HoldsDisk t nsid x
+
 -- another namespace that is enabled or draining has this path
-pub record AnotherHas (t : Tree) (path : List ℕ) (sub : List ℕ) (nsid : ℕ) : Type 0 where
+pub record AnotherHas (t : Configuration) (path : List ℕ) (sub : List ℕ) (nsid : ℕ) : Type 0 where
   pub other : List ℕ
   pub number : ℕ
   pub differs : other ≡ sub → number ≡ nsid → ⊥
@@ -76,6 +92,6 @@ pub record AnotherHas (t : Tree) (path : List ℕ) (sub : List ℕ) (nsid : ℕ)
   pub same_path : x.row.device_path ≡ Some path
 
 -- of a namespace that is off: the disk of its path is held exactly where another has the path
-abbrev pub HeldMeansAnother : Tree → List ℕ → ℕ → Type 0
-HeldMeansAnother t sub nsid = IsStanding t → (x : Placed) (path : List ℕ) → placed t.settings.subsystems sub nsid ≡ Some x → x.row.device_path ≡ Some path → (IsTrue (is_live t.disks nsid x) → ⊥)
+abbrev pub HeldMeansAnother : Configuration → List ℕ → ℕ → Type 0
+HeldMeansAnother t sub nsid = (x : Placed) (path : List ℕ) → placed t.settings.subsystems sub nsid ≡ Some x → x.row.device_path ≡ Some path → (IsTrue (is_live t.disks nsid x) → ⊥)
     → (IsTrue (is_held t.disks (Some path)) ↔ AnotherHas t path sub nsid)

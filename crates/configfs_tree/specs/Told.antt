@@ -6,14 +6,14 @@ use Rattle.configfs_tree.specs.Standing.{Placed, placed}
 use Rattle.configfs_tree.specs.declared.edits.Change.{Change}
 use Rattle.configfs_tree.specs.declared.edits.Touched.{Touched}
 use Rattle.configfs_tree.specs.declared.edits.Touched.TheVariants as touches
-use Rattle.configfs_tree.specs.declared.subsystems.SubsystemRow.{SubsystemRow}
-use Rattle.configfs_tree.specs.declared.ports.AnaState.{AnaState}
-use Rattle.configfs_tree.specs.declared.ports.PortRow.{PortRow}
-use Rattle.configfs_tree.specs.declared.tree.Tree.{Tree}
+use Rattle.configfs_rows.specs.declared.subsystems.SubsystemRow.{SubsystemRow}
+use Rattle.sqe_cqe.specs.declared.rows.Ana.{Ana}
+use Rattle.configfs_rows.specs.declared.ports.PortRow.{PortRow}
+use Rattle.configfs_tree.specs.declared.configuration.Configuration.{Configuration}
 
 -- ---- what is looked at
 -- the namespace of a subsystem's name and an NSID, with the subsystem's position
-abbrev pub space : Tree → List ℕ → ℕ → Option Placed
+abbrev pub space : Configuration → List ℕ → ℕ → Option Placed
 space t sub nsid = placed t.settings.subsystems sub nsid
 
 abbrev pub enabled_row : Option Placed → Bool
@@ -21,18 +21,18 @@ enabled_row None = false
 enabled_row (Some x) = x.row.enabled
 
 -- it is there and enabled
-abbrev pub is_enabled : Tree → List ℕ → ℕ → Bool
+abbrev pub is_enabled : Configuration → List ℕ → ℕ → Bool
 is_enabled t sub nsid = enabled_row (space t sub nsid)
 
 -- ---- what a change names
 -- a namespace change names this namespace, by its subsystem's position and its NSID
-pub record NamesSpace (t : Tree) (c : Change) (sub : List ℕ) (nsid : ℕ) : Type 0 where
+pub record NamesSpace (t : Configuration) (c : Change) (sub : List ℕ) (nsid : ℕ) : Type 0 where
   pub x : Placed
   pub stands : space t sub nsid ≡ Some x
   pub told : c.namespace ≡ Some (x.at, nsid)
 
 -- a namespace of the subsystem at this position got enabled, or was enabled and begins to drain
-pub record SpaceTurns (t u : Tree) (at nsid : ℕ) (drains : Bool) : Type 0 where
+pub record SpaceTurns (t u : Configuration) (at nsid : ℕ) (drains : Bool) : Type 0 where
   pub sub : List ℕ
   pub x : Placed
   pub y : Placed
@@ -43,7 +43,7 @@ pub record SpaceTurns (t u : Tree) (at nsid : ℕ) (drains : Bool) : Type 0 wher
   pub is : y.row.enabled ≡ not drains
 
 -- ANA groups of the port at this position differ
-pub record PortDiffers (t u : Tree) (at : ℕ) : Type 0 where
+pub record PortDiffers (t u : Configuration) (at : ℕ) : Type 0 where
   pub id : ℕ
   pub p : PortRow
   pub q : PortRow
@@ -53,7 +53,7 @@ pub record PortDiffers (t u : Tree) (at : ℕ) : Type 0 where
   pub differs : q.groups ≡ p.groups → ⊥
 
 -- a namespace of the subsystem at this position came into another ANA group
-pub record SpaceMoves (t u : Tree) (at : ℕ) : Type 0 where
+pub record SpaceMoves (t u : Configuration) (at : ℕ) : Type 0 where
   pub sub : List ℕ
   pub nsid : ℕ
   pub x : Placed
@@ -78,19 +78,19 @@ port_front None = None
 port_front (Some p) = Some (record p { groups = map.empty })
 
 -- the state of an ANA group that is made
-abbrev pub group_in : Option PortRow → ℕ → Option AnaState
+abbrev pub group_in : Option PortRow → ℕ → Option Ana
 group_in None group = None
 group_in (Some p) group = map.get p.groups group
 
--- what isn't of the touched row is as before: each namespace, each subsystem beside its namespaces, each port beside its ANA groups, and each ANA group. The row of a port takes its ANA groups in
-pub record OneRow (t u : Tree) (touched : Touched) : Type 0 where
+-- what isn't of the touched row is as before: each namespace, each subsystem beside its namespaces, each port beside its ANA groups, and each ANA group. The row of a port takes its ANA group 1 in
+pub record OneRow (t u : Configuration) (touched : Touched) : Type 0 where
   pub spaces : (sub : List ℕ) (nsid : ℕ) → (space u sub nsid ≡ space t sub nsid) ⊎ ((x : Placed) × OneOf (space t sub nsid) (space u sub nsid) x × (touched ≡ touches.Namespace x.at nsid))
   pub subsystems : (sub : List ℕ) → (subsystem_front (map.get u.settings.subsystems sub) ≡ subsystem_front (map.get t.settings.subsystems sub)) ⊎ ((s : SubsystemRow) × OneOf (map.get t.settings.subsystems sub) (map.get u.settings.subsystems sub) s × (touched ≡ touches.Subsystem s.at))
   pub ports : (id : ℕ) → (port_front (map.get u.settings.ports id) ≡ port_front (map.get t.settings.ports id)) ⊎ ((p : PortRow) × OneOf (map.get t.settings.ports id) (map.get u.settings.ports id) p × (touched ≡ touches.Port p.at))
-  pub groups : (id group : ℕ) → (group_in (map.get u.settings.ports id) group ≡ group_in (map.get t.settings.ports id) group) ⊎ ((p : PortRow) × OneOf (map.get t.settings.ports id) (map.get u.settings.ports id) p × ((touched ≡ touches.Group p.at group) ⊎ (touched ≡ touches.Port p.at)))
+  pub groups : (id group : ℕ) → (group_in (map.get u.settings.ports id) group ≡ group_in (map.get t.settings.ports id) group) ⊎ ((p : PortRow) × OneOf (map.get t.settings.ports id) (map.get u.settings.ports id) p × ((touched ≡ touches.Group p.at group) ⊎ ((touched ≡ touches.Port p.at) × (group ≡ 1))))
 
 -- ---- the law, of the trees before and after an accepted edit
-pub record Tells (t u : Tree) (c : Change) : Type 0 where
+pub record Tells (t u : Configuration) (c : Change) : Type 0 where
   -- published: the configuration differs. Else nothing differs, and nothing is told of: the value that stands was written
   pub published : (IsTrue c.published × (u.settings ≡ t.settings → ⊥)) ⊎ ((u ≡ t) × (c ≡ nothing))
   -- each namespace is as much enabled as before, or it is the one that is named

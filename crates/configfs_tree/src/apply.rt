@@ -1,15 +1,15 @@
-ghost use Rattle.std.specs.Prelude.{◌≡◌, IsTrue, IfOk};
-ghost use Rattle.configfs_tree.specs.Asked.{is_fitting};
+ghost use Rattle.std.specs.Prelude.{◌≡◌, true, IsTrue, IfOk};
+ghost use Rattle.configfs_tree.specs.Asked.{is_fitting, is_text_attr, may_grow, has_name, is_named};
+ghost use Rattle.configfs_tree.specs.Stays.{Stays};
 ghost use Rattle.configfs_tree.specs.Gives.{Gives, GivesErrno, with_errno};
-ghost use Rattle.configfs_tree.specs.Standing.{IsStanding};
 ghost use Rattle.configfs_tree.specs.Table.{edit_outcome, mkdir, rmdir, set_of_subsystem, set_of_namespace, set_of_port, set_of_group};
 ghost use Rattle.configfs_tree.specs.Told.{Tells};
-ghost use Rattle.configfs_tree.specs.Values.{is_text};
+ghost use Rattle.configfs_rows.specs.Values.{is_text};
 
+use crate::configuration::Configuration;
 use crate::edits::{Attr, Change, Errno, Folder, FolderEdit, Refused};
-use crate::nqn::Nqn;
 use crate::tree::Tree;
-use crate::values::may_be_text;
+use configfs_rows::{Identifier, Nqn, may_be_text};
 use std::alloc::Global;
 
 impl FolderEdit {
@@ -28,6 +28,30 @@ impl FolderEdit {
     }
 }
 
+// Says that the name of a folder is an NQN.
+fn certify_name(folder: &Folder)
+    ensures { IsTrue (has_name folder.now) }
+{
+    match folder {
+        Folder::Host(name) => name.certify(),
+        Folder::Subsystem(name) => name.certify(),
+        Folder::Namespace(name, _) => name.certify(),
+        Folder::Port(_) => {}
+        Folder::AnaGroup(_, _) => {}
+    }
+}
+
+// Says that the name of an edit's folder is an NQN.
+fn certify_names(e: &FolderEdit)
+    ensures { IsTrue (is_named e.now) }
+{
+    match e {
+        FolderEdit::Mkdir(folder) => certify_name(folder),
+        FolderEdit::Rmdir(folder) => certify_name(folder),
+        FolderEdit::Set(folder, _, _) => certify_name(folder),
+    }
+}
+
 // An answer that takes no memory as one that may.
 fn refusing(answer: Result<Change, Errno>) -> Result<Change, Refused>
     ensures { result ≡ with_errno answer }
@@ -38,9 +62,9 @@ fn refusing(answer: Result<Change, Errno>) -> Result<Change, Refused>
     }
 }
 
-impl Tree {
+impl Configuration {
     fn mkdir(&mut self, alloc: Global, folder: &Folder) -> Result<Change, Refused>
-        ensures { Gives (mkdir self.old folder.now) self.old result self.new }
+        ensures { Gives true (mkdir self.old folder.now) self.old result self.new }
     {
         match folder {
             Folder::Host(host) => self.mkdir_host(host),
@@ -70,7 +94,7 @@ impl Tree {
         attr: Attr,
         value: &[u8],
     ) -> Result<Change, Refused>
-        ensures { Gives (set_of_subsystem self.old sub.now attr value.now) self.old result self.new }
+        ensures { Gives (is_text_attr attr) (set_of_subsystem self.old sub.now attr value.now) self.old result self.new }
     {
         match attr {
             Attr::AllowAnyHost => refusing(self.set_attr_allow_any_host(sub, value)),
@@ -89,12 +113,16 @@ impl Tree {
         value: &[u8],
     ) -> Result<Change, Refused>
         requires { IsTrue (is_text value.now) }
-        ensures { Gives (set_of_namespace self.old sub.now nsid attr value.now) self.old result self.new }
+        ensures { Gives (is_text_attr attr) (set_of_namespace self.old sub.now nsid attr value.now) self.old result self.new }
     {
         match attr {
             Attr::DevicePath => self.set_device_path(alloc, sub, nsid, value),
-            Attr::DeviceUuid => refusing(self.set_device_uuid(sub, nsid, value)),
-            Attr::DeviceNguid => refusing(self.set_device_nguid(sub, nsid, value)),
+            Attr::DeviceUuid => {
+                refusing(self.set_identifier(sub, nsid, Identifier::Uuid, value))
+            }
+            Attr::DeviceNguid => {
+                refusing(self.set_identifier(sub, nsid, Identifier::Nguid, value))
+            }
             Attr::AnaGrpid => refusing(self.set_ana_grpid(sub, nsid, value)),
             Attr::Enable => refusing(self.set_enable(sub, nsid, value)),
             _ => Err(Refused::Errno(Errno::EINVAL)),
@@ -108,7 +136,7 @@ impl Tree {
         attr: Attr,
         value: &[u8],
     ) -> Result<Change, Refused>
-        ensures { Gives (set_of_port self.old id attr value.now) self.old result self.new }
+        ensures { Gives (is_text_attr attr) (set_of_port self.old id attr value.now) self.old result self.new }
     {
         match attr {
             Attr::Trtype => self.set_addr_trtype(alloc, id, value),
@@ -127,17 +155,17 @@ impl Tree {
         attr: Attr,
         value: &[u8],
     ) -> Result<Change, Refused>
-        ensures { Gives (set_of_group self.old id group attr value.now) self.old result self.new }
+        ensures { Gives (is_text_attr attr) (set_of_group self.old id group attr value.now) self.old result self.new }
     {
         match attr {
-            Attr::AnaState => self.set_ana_state(id, group, value),
+            Attr::AnaState => refusing(self.set_ana_state(id, group, value)),
             _ => Err(Refused::Errno(Errno::EINVAL)),
         }
     }
 
     fn edit_folder(&mut self, alloc: Global, e: &FolderEdit) -> Result<Change, Refused>
         requires { IsTrue (is_fitting e.now) }
-        ensures { Gives (edit_outcome self.old e.now) self.old result self.new }
+        ensures { Gives (may_grow e.now) (edit_outcome self.old e.now) self.old result self.new }
     {
         match e {
             FolderEdit::Mkdir(folder) => self.mkdir(alloc, folder),
@@ -157,16 +185,21 @@ impl Tree {
             }
         }
     }
+}
 
+impl Tree {
     /// Makes an edit of a folder, by the table of edits: it answers what changed, or the errno of
     /// the first row whose condition holds. A refused edit and want of memory leave the tree as
-    /// it was.
+    /// it was. Want of memory comes only of an edit that makes a folder or writes a text, where
+    /// the table accepts it and something changes. Where a controller is attached, an accepted
+    /// edit leaves the subsystem and the port, at their positions.
     pub fn apply_folder(&mut self, alloc: Global, e: &FolderEdit) -> Result<Change, Refused>
         requires { IsTrue (is_fitting e.now) }
-        ensures gives { Gives (edit_outcome self.old e.now) self.old result self.new }
-        ensures stands { IsStanding self.old → IsStanding self.new }
+        ensures gives { Gives (may_grow e.now) (edit_outcome self.old e.now) self.old result self.new }
+        ensures stays { IfOk result (λ _. Stays self.old self.new) }
         ensures tells { IfOk result (λ change. Tells self.old self.new change) }
     {
-        self.edit_folder(alloc, e)
+        certify_names(e);
+        self.configuration.edit_folder(alloc, e)
     }
 }

@@ -3,7 +3,7 @@ ghost use Rattle.configfs_tree.specs.Outcome.{nothing, touching, namespace_chang
 ghost use Rattle.configfs_tree.specs.Asked.{fits};
 ghost use Rattle.configfs_tree.specs.Errnos.{name_of};
 
-use crate::nqn::Nqn;
+use configfs_rows::Nqn;
 use mem_bdev::Name;
 
 /// A folder of the tree, by the names on its path.
@@ -133,8 +133,8 @@ pub struct Change {
 }
 
 impl Change {
-    // No change.
-    pub(crate) fn none() -> Self
+    /// No change.
+    pub fn none() -> Self
         ensures { result ≡ nothing }
     {
         Change {
@@ -147,8 +147,8 @@ impl Change {
         }
     }
 
-    // A change of a row.
-    pub(crate) fn of(touched: Touched) -> Self
+    /// A change of a row.
+    pub fn of(touched: Touched) -> Self
         ensures { result ≡ touching touched }
     {
         let mut change = Change::none();
@@ -157,8 +157,8 @@ impl Change {
         change
     }
 
-    // A namespace gets enabled, or begins to drain.
-    pub(crate) fn of_namespace(at: u8, nsid: u32, drains: bool) -> Self
+    /// A namespace gets enabled, or begins to drain.
+    pub fn of_namespace(at: u8, nsid: u32, drains: bool) -> Self
         ensures { result ≡ namespace_change at nsid drains }
     {
         let mut change = Change::of(Touched::Namespace(at, nsid));
@@ -167,8 +167,8 @@ impl Change {
         change
     }
 
-    // An ANA change of a port.
-    pub(crate) fn of_port(at: u8, group: u32) -> Self
+    /// An ANA change of a port, by its position and the group.
+    pub fn of_port(at: u8, group: u32) -> Self
         ensures { result ≡ port_change at group }
     {
         let mut change = Change::of(Touched::Group(at, group));
@@ -176,8 +176,9 @@ impl Change {
         change
     }
 
-    // An ANA change of a subsystem.
-    pub(crate) fn of_group(at: u8, nsid: u32) -> Self
+    /// An ANA change of a subsystem, by its position and the NSID of the namespace that came
+    /// into another group.
+    pub fn of_group(at: u8, nsid: u32) -> Self
         ensures { result ≡ group_change at nsid }
     {
         let mut change = Change::of(Touched::Namespace(at, nsid));

@@ -1,16 +1,16 @@
 // Edits of hosts, each by its rows of the table.
+ghost use Rattle.std.specs.Prelude.{true};
 ghost use Rattle.configfs_tree.specs.Gives.{Gives, GivesErrno};
 ghost use Rattle.configfs_tree.specs.Table.{mkdir_host, rmdir_host};
 
+use crate::configuration::Configuration;
 use crate::edits::{Change, Errno, Refused, Touched};
-use crate::limits::MAX_HOSTS;
-use crate::nqn::Nqn;
-use crate::tree::Tree;
+use configfs_rows::{MAX_HOSTS, Nqn};
 
-impl Tree {
+impl Configuration {
     #[tactic(auto, unfolding(crate::specs::Table::mkdir_host, crate::specs::Outcome::first_of))]
     pub(crate) fn mkdir_host(&mut self, host: &Nqn) -> Result<Change, Refused>
-        ensures { Gives (mkdir_host self.old host.now) self.old result self.new }
+        ensures { Gives true (mkdir_host self.old host.now) self.old result self.new }
     {
         if self.settings.hosts.contains(host) {
             return Err(Refused::Errno(Errno::EEXIST));

@@ -10,38 +10,28 @@
 #![tactic(auto)]
 
 mod apply;
-mod disks;
+mod configuration;
 mod edits;
 mod host_edits;
 mod laws;
-mod limits;
 mod links;
-mod names;
 mod namespace_edits;
-mod namespaces;
-mod nqn;
 mod port_edits;
-mod ports;
 mod subsystem_edits;
-mod subsystems;
 #[cfg(test)]
 mod test_rows;
 #[cfg(test)]
 mod tests;
 mod tree;
-mod values;
 
-pub use disks::{DiskRow, Disks, Holder};
-pub use edits::{Attr, Change, Errno, Folder, FolderEdit, Refused, Touched};
-pub use laws::held_means_another;
-pub use limits::{
-    MAX_ANA_GROUPS, MAX_HOSTS, MAX_NSID, MAX_PORTS, MAX_SUBSYSTEMS, MODEL_LEN, NQN_LEN, PATH_LEN,
-    SERIAL_LEN, TRADDR_LEN, TRSVCID_LEN,
+pub use configfs_rows::{
+    Address, DiskRow, Disks, Groups, Holder, Identifier, MAX_ANA_GROUPS, MAX_CONTROLLERS,
+    MAX_DISKS, MAX_HOSTS, MAX_NSID, MAX_PORTS, MAX_SUBSYSTEMS, MODEL_LEN, NQN_LEN, Names,
+    NamespaceRow, Namespaces, Nqn, PATH_LEN, Phase, PortRow, Ports, SERIAL_LEN, SubsystemRow,
+    Subsystems, TRADDR_LEN, TRSVCID_LEN,
 };
+pub use configuration::{Attached, Configuration, Settings, may_be_disks};
+pub use edits::{Attr, Change, Errno, Folder, FolderEdit, Refused, Touched};
+pub use laws::{held_means_another, live_holds_disk, port_positions, subsystem_positions};
 pub use links::{admits_host, serves};
-pub use names::Names;
-pub use namespaces::{NamespacePut, NamespaceRow, Namespaces, Phase};
-pub use nqn::Nqn;
-pub use ports::{Address, AnaState, Groups, PortRow, Ports};
-pub use subsystems::{SubsystemPut, SubsystemRow, Subsystems};
-pub use tree::{Attached, Settings, Tree};
+pub use tree::Tree;

@@ -1,27 +1,26 @@
 // Edits of namespaces, each by its rows of the table, and the end of a drain.
-ghost use Rattle.std.specs.Prelude.{◌≡◌, Some, codes, IsTrue, IfOk};
+ghost use Rattle.std.specs.Prelude.{◌≡◌, true, Some, codes, IsTrue, IfOk};
 ghost use Rattle.configfs_tree.specs.Drained.{drained};
 ghost use Rattle.configfs_tree.specs.Gives.{Gives, GivesErrno};
 ghost use Rattle.configfs_tree.specs.Phases.{phase_at};
-ghost use Rattle.configfs_tree.specs.Standing.{IsStanding};
-ghost use Rattle.configfs_tree.specs.Table.{mkdir_namespace, rmdir_namespace, set_device_path, set_device_uuid, set_device_nguid, set_ana_grpid, set_enable};
+ghost use Rattle.configfs_tree.specs.Table.{mkdir_namespace, rmdir_namespace, set_device_path, set_identifier, set_ana_grpid, set_enable};
 ghost use Rattle.configfs_tree.specs.Told.{Tells};
-ghost use Rattle.configfs_tree.specs.Values.{is_text};
+ghost use Rattle.configfs_rows.specs.Values.{is_text};
 
-use crate::disks::Holder;
+use crate::configuration::{Configuration, raised};
 use crate::edits::{Change, Errno, Refused, Touched};
-use crate::limits::MAX_NSID;
-use crate::namespaces::{NamespacePut, Phase};
-use crate::nqn::Nqn;
-use crate::tree::{Tree, raised};
-use crate::values::{group_number, may_be_path, parsed_uuid, stands};
+use crate::tree::Tree;
+use configfs_rows::{
+    Holder, Identifier, MAX_NSID, NamespacePut, Nqn, Phase, group_number, may_be_path, parsed_uuid,
+    stands,
+};
 use mem_bdev::Name;
 use std::alloc::Global;
 
-impl Tree {
+impl Configuration {
     #[tactic(auto, unfolding(crate::specs::Table::mkdir_namespace, crate::specs::Outcome::first_of, crate::specs::Outcome::if_subsystem))]
     pub(crate) fn mkdir_namespace(&mut self, sub: &Nqn, nsid: u32) -> Result<Change, Refused>
-        ensures { Gives (mkdir_namespace self.old sub.now nsid) self.old result self.new }
+        ensures { Gives true (mkdir_namespace self.old sub.now nsid) self.old result self.new }
     {
         let Some(row) = self.settings.subsystems.get(sub) else {
             return Err(Refused::Errno(Errno::ENOENT));
@@ -65,7 +64,7 @@ impl Tree {
         nsid: u32,
         value: &[u8],
     ) -> Result<Change, Refused>
-        ensures { Gives (set_device_path self.old sub.now nsid value.now) self.old result self.new }
+        ensures { Gives true (set_device_path self.old sub.now nsid value.now) self.old result self.new }
     {
         let Some(row) = self.settings.subsystems.get(sub) else {
             return Err(Refused::Errno(Errno::ENOENT));
@@ -83,24 +82,26 @@ impl Tree {
         if stands(&namespace.device_path, value) {
             return Ok(Change::none());
         }
+        let disk = self.disks.number(value);
         let Ok(path) = Name::copied(alloc, value) else {
             return Err(Refused::Memory);
         };
         self.settings
             .subsystems
-            .put_namespace(sub, nsid, NamespacePut::Path(path));
+            .put_namespace(sub, nsid, NamespacePut::Path(path, disk));
         Ok(Change::of(Touched::Namespace(at, nsid)))
     }
 
-    #[tactic(auto, unfolding(crate::specs::Table::set_device_uuid, crate::specs::Outcome::first_of, crate::specs::Outcome::unless_stands, crate::specs::Outcome::if_subsystem, crate::specs::Outcome::if_namespace))]
-    pub(crate) fn set_device_uuid(
+    #[tactic(auto, unfolding(crate::specs::Table::set_identifier, crate::specs::Outcome::first_of, crate::specs::Outcome::unless_stands, crate::specs::Outcome::if_subsystem, crate::specs::Outcome::if_namespace))]
+    pub(crate) fn set_identifier(
         &mut self,
         sub: &Nqn,
         nsid: u32,
+        which: Identifier,
         value: &[u8],
     ) -> Result<Change, Errno>
         requires { IsTrue (is_text value.now) }
-        ensures { GivesErrno (set_device_uuid self.old sub.now nsid value.now) self.old result self.new }
+        ensures { GivesErrno (set_identifier self.old sub.now nsid which value.now) self.old result self.new }
     {
         let Some(row) = self.settings.subsystems.get(sub) else {
             return Err(Errno::ENOENT);
@@ -112,47 +113,15 @@ impl Tree {
         if self.busy(at, nsid, namespace) {
             return Err(Errno::EBUSY);
         }
-        let Some(uuid) = parsed_uuid(value) else {
+        let Some(bytes) = parsed_uuid(value) else {
             return Err(Errno::EINVAL);
         };
-        if namespace.uuid.as_slice() == uuid.as_slice() {
+        if namespace.identifier(which).as_slice() == bytes.as_slice() {
             return Ok(Change::none());
         }
         self.settings
             .subsystems
-            .put_namespace(sub, nsid, NamespacePut::Uuid(uuid));
-        Ok(Change::of(Touched::Namespace(at, nsid)))
-    }
-
-    #[tactic(auto, unfolding(crate::specs::Table::set_device_nguid, crate::specs::Outcome::first_of, crate::specs::Outcome::unless_stands, crate::specs::Outcome::if_subsystem, crate::specs::Outcome::if_namespace))]
-    pub(crate) fn set_device_nguid(
-        &mut self,
-        sub: &Nqn,
-        nsid: u32,
-        value: &[u8],
-    ) -> Result<Change, Errno>
-        requires { IsTrue (is_text value.now) }
-        ensures { GivesErrno (set_device_nguid self.old sub.now nsid value.now) self.old result self.new }
-    {
-        let Some(row) = self.settings.subsystems.get(sub) else {
-            return Err(Errno::ENOENT);
-        };
-        let at = row.at;
-        let Some(namespace) = row.namespaces.get(nsid) else {
-            return Err(Errno::ENOENT);
-        };
-        if self.busy(at, nsid, namespace) {
-            return Err(Errno::EBUSY);
-        }
-        let Some(nguid) = parsed_uuid(value) else {
-            return Err(Errno::EINVAL);
-        };
-        if namespace.nguid.as_slice() == nguid.as_slice() {
-            return Ok(Change::none());
-        }
-        self.settings
-            .subsystems
-            .put_namespace(sub, nsid, NamespacePut::Nguid(nguid));
+            .put_namespace(sub, nsid, NamespacePut::Identifier(which, bytes));
         Ok(Change::of(Touched::Namespace(at, nsid)))
     }
 
@@ -231,16 +200,6 @@ impl Tree {
         Ok(Change::of_namespace(at, nsid, false))
     }
 
-    /// Makes the edit set `enable` to `0`, without memory: an enabled namespace begins to drain,
-    /// another stays as it is. ENOENT is exactly where the subsystem or the namespace isn't there.
-    pub fn disable(&mut self, sub: &Nqn, nsid: u32) -> Result<Change, Errno>
-        ensures gives { GivesErrno (set_enable self.old sub.now nsid (codes "0")) self.old result self.new }
-        ensures stands { IsStanding self.old → IsStanding self.new }
-        ensures tells { IfOk result (λ change. Tells self.old self.new change) }
-    {
-        self.set_enable(sub, nsid, b"0")
-    }
-
     // Frees the disk that a namespace holds.
     fn free_disk(&mut self, sub: &Nqn, nsid: u32)
         ensures { self.new ≡ drained self.old sub.now nsid }
@@ -255,13 +214,23 @@ impl Tree {
             self.disks.hold(path.as_bytes(), None);
         }
     }
+}
+
+impl Tree {
+    /// Makes the edit set `enable` to `0`, without memory: an enabled namespace begins to drain,
+    /// another stays as it is. ENOENT is exactly where the subsystem or the namespace isn't there.
+    pub fn disable(&mut self, sub: &Nqn, nsid: u32) -> Result<Change, Errno>
+        ensures gives { GivesErrno (set_enable self.old sub.now nsid (codes "0")) self.old result self.new }
+        ensures tells { IfOk result (λ change. Tells self.old self.new change) }
+    {
+        self.configuration.set_enable(sub, nsid, b"0")
+    }
 
     /// Ends the drain of a namespace that is draining: it becomes off, and its disk is free.
     pub fn end_drain(&mut self, sub: &Nqn, nsid: u32)
         requires { phase_at self.old sub.now nsid ≡ Some Phase.Draining }
-        ensures drained { self.new ≡ drained self.old sub.now nsid }
-        ensures stands { IsStanding self.old → IsStanding self.new }
+        ensures { self.new ≡ drained self.old sub.now nsid }
     {
-        self.free_disk(sub, nsid);
+        self.configuration.free_disk(sub, nsid);
     }
 }

@@ -1,19 +1,22 @@
 // Edits of ports and their ANA groups, each by its rows of the table.
+ghost use Rattle.std.specs.Prelude.{true};
 ghost use Rattle.configfs_tree.specs.Gives.{Gives, GivesErrno};
 ghost use Rattle.configfs_tree.specs.Table.{mkdir_port, rmdir_port, mkdir_ana_group, rmdir_ana_group, set_address, set_addr_trtype, set_addr_adrfam, set_addr_treq, set_addr_traddr, set_addr_trsvcid, set_ana_state};
 
+use crate::configuration::{Configuration, raised};
 use crate::edits::{Change, Errno, Refused, Touched};
-use crate::limits::{MAX_ANA_GROUPS, MAX_PORTS, TRADDR_LEN, TRSVCID_LEN};
-use crate::ports::{Address, AnaState, PortRow};
-use crate::tree::{Tree, raised};
-use crate::values::{is_adrfam, is_treq, is_trtype};
+use configfs_rows::{
+    Address, MAX_ANA_GROUPS, MAX_PORTS, PortRow, TRADDR_LEN, TRSVCID_LEN, is_adrfam, is_treq,
+    is_trtype,
+};
 use mem_bdev::Name;
+use sqe_cqe::Ana;
 use std::alloc::Global;
 
-impl Tree {
+impl Configuration {
     #[tactic(auto, unfolding(crate::specs::Table::mkdir_port, crate::specs::Outcome::first_of))]
     pub(crate) fn mkdir_port(&mut self, alloc: Global, id: u16) -> Result<Change, Refused>
-        ensures { Gives (mkdir_port self.old id) self.old result self.new }
+        ensures { Gives true (mkdir_port self.old id) self.old result self.new }
     {
         if self.settings.ports.get(id).is_some() {
             return Err(Refused::Errno(Errno::EEXIST));
@@ -33,7 +36,7 @@ impl Tree {
 
     #[tactic(auto, unfolding(crate::specs::Table::mkdir_ana_group, crate::specs::Outcome::first_of, crate::specs::Outcome::if_port))]
     pub(crate) fn mkdir_ana_group(&mut self, id: u16, group: u32) -> Result<Change, Refused>
-        ensures { Gives (mkdir_ana_group self.old id group) self.old result self.new }
+        ensures { Gives true (mkdir_ana_group self.old id group) self.old result self.new }
     {
         let Some(row) = self.settings.ports.get(id) else {
             return Err(Refused::Errno(Errno::ENOENT));
@@ -48,7 +51,7 @@ impl Tree {
         if self
             .settings
             .ports
-            .put_group(id, group, AnaState::Inaccessible)
+            .put_group(id, group, Ana::Inaccessible)
             .is_err()
         {
             return Err(Refused::Memory);
@@ -105,7 +108,7 @@ impl Tree {
         good: bool,
         value: &[u8],
     ) -> Result<Change, Refused>
-        ensures { Gives (set_address self.old id address good value.now) self.old result self.new }
+        ensures { Gives true (set_address self.old id address good value.now) self.old result self.new }
     {
         let Some(row) = self.settings.ports.get(id) else {
             return Err(Refused::Errno(Errno::ENOENT));
@@ -134,7 +137,7 @@ impl Tree {
         id: u16,
         value: &[u8],
     ) -> Result<Change, Refused>
-        ensures { Gives (set_addr_trtype self.old id value.now) self.old result self.new }
+        ensures { Gives true (set_addr_trtype self.old id value.now) self.old result self.new }
     {
         self.set_address(alloc, id, Address::Trtype, is_trtype(value), value)
     }
@@ -146,7 +149,7 @@ impl Tree {
         id: u16,
         value: &[u8],
     ) -> Result<Change, Refused>
-        ensures { Gives (set_addr_adrfam self.old id value.now) self.old result self.new }
+        ensures { Gives true (set_addr_adrfam self.old id value.now) self.old result self.new }
     {
         self.set_address(alloc, id, Address::Adrfam, is_adrfam(value), value)
     }
@@ -158,7 +161,7 @@ impl Tree {
         id: u16,
         value: &[u8],
     ) -> Result<Change, Refused>
-        ensures { Gives (set_addr_treq self.old id value.now) self.old result self.new }
+        ensures { Gives true (set_addr_treq self.old id value.now) self.old result self.new }
     {
         self.set_address(alloc, id, Address::Treq, is_treq(value), value)
     }
@@ -170,7 +173,7 @@ impl Tree {
         id: u16,
         value: &[u8],
     ) -> Result<Change, Refused>
-        ensures { Gives (set_addr_traddr self.old id value.now) self.old result self.new }
+        ensures { Gives true (set_addr_traddr self.old id value.now) self.old result self.new }
     {
         let short = value.len() <= TRADDR_LEN;
         self.set_address(alloc, id, Address::Traddr, short, value)
@@ -183,7 +186,7 @@ impl Tree {
         id: u16,
         value: &[u8],
     ) -> Result<Change, Refused>
-        ensures { Gives (set_addr_trsvcid self.old id value.now) self.old result self.new }
+        ensures { Gives true (set_addr_trsvcid self.old id value.now) self.old result self.new }
     {
         let short = value.len() <= TRSVCID_LEN;
         self.set_address(alloc, id, Address::Trsvcid, short, value)
@@ -195,25 +198,26 @@ impl Tree {
         id: u16,
         group: u32,
         value: &[u8],
-    ) -> Result<Change, Refused>
-        ensures { Gives (set_ana_state self.old id group value.now) self.old result self.new }
+    ) -> Result<Change, Errno>
+        ensures { GivesErrno (set_ana_state self.old id group value.now) self.old result self.new }
     {
         let Some(row) = self.settings.ports.get(id) else {
-            return Err(Refused::Errno(Errno::ENOENT));
+            return Err(Errno::ENOENT);
         };
         let at = row.at;
         let Some(state) = row.groups.get(group) else {
-            return Err(Refused::Errno(Errno::ENOENT));
+            return Err(Errno::ENOENT);
         };
-        let Some(new) = AnaState::named(value) else {
-            return Err(Refused::Errno(Errno::EINVAL));
+        let Some(new) = Ana::named(value) else {
+            return Err(Errno::EINVAL);
         };
         if state.number() == new.number() {
             return Ok(Change::none());
         }
-        if self.settings.ports.put_group(id, group, new).is_err() {
-            return Err(Refused::Memory);
-        }
+        // A group that is made takes no memory.
+        let Ok(()) = self.settings.ports.put_group(id, group, new) else {
+            unreachable!()
+        };
         self.settings.ana_count = raised(self.settings.ana_count);
         Ok(Change::of_port(at, group))
     }

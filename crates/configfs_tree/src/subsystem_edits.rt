@@ -1,19 +1,18 @@
 // Edits of subsystems, each by its rows of the table.
+ghost use Rattle.std.specs.Prelude.{true};
 ghost use Rattle.configfs_tree.specs.Gives.{Gives, GivesErrno};
 ghost use Rattle.configfs_tree.specs.Table.{mkdir_subsystem, rmdir_subsystem, set_attr_allow_any_host, set_attr_serial, set_attr_model};
 
+use crate::configuration::Configuration;
 use crate::edits::{Change, Errno, Refused, Touched};
-use crate::limits::{MAX_SUBSYSTEMS, MODEL_LEN, SERIAL_LEN};
-use crate::nqn::Nqn;
-use crate::subsystems::{SubsystemPut, SubsystemRow};
-use crate::tree::Tree;
+use configfs_rows::{MAX_SUBSYSTEMS, MODEL_LEN, Nqn, SERIAL_LEN, SubsystemPut, SubsystemRow};
 use mem_bdev::Name;
 use std::alloc::Global;
 
-impl Tree {
+impl Configuration {
     #[tactic(auto, unfolding(crate::specs::Table::mkdir_subsystem, crate::specs::Outcome::first_of))]
     pub(crate) fn mkdir_subsystem(&mut self, alloc: Global, sub: &Nqn) -> Result<Change, Refused>
-        ensures { Gives (mkdir_subsystem self.old sub.now) self.old result self.new }
+        ensures { Gives true (mkdir_subsystem self.old sub.now) self.old result self.new }
     {
         if sub.as_bytes() == b"nqn.2014-08.org.nvmexpress.discovery".as_slice() {
             return Err(Refused::Errno(Errno::EINVAL));
@@ -91,7 +90,7 @@ impl Tree {
         sub: &Nqn,
         value: &[u8],
     ) -> Result<Change, Refused>
-        ensures { Gives (set_attr_serial self.old sub.now value.now) self.old result self.new }
+        ensures { Gives true (set_attr_serial self.old sub.now value.now) self.old result self.new }
     {
         let Some(row) = self.settings.subsystems.get(sub) else {
             return Err(Refused::Errno(Errno::ENOENT));
@@ -119,7 +118,7 @@ impl Tree {
         sub: &Nqn,
         value: &[u8],
     ) -> Result<Change, Refused>
-        ensures { Gives (set_attr_model self.old sub.now value.now) self.old result self.new }
+        ensures { Gives true (set_attr_model self.old sub.now value.now) self.old result self.new }
     {
         let Some(row) = self.settings.subsystems.get(sub) else {
             return Err(Refused::Errno(Errno::ENOENT));

@@ -73,6 +73,7 @@ fn line(rt: &impl Abort, alloc: Global, path: &str) -> DiskLine {
 // The empty tree over two disks.
 fn start(rt: &impl Abort, alloc: Global) -> Tree {
     let lines = [line(rt, alloc, "/dev/ram0"), line(rt, alloc, "/dev/ram1")];
+    assert!(rt; may_be_disks(&lines));
     Tree::new(alloc, &lines).expect(rt, "memory")
 }
 
@@ -99,10 +100,12 @@ fn hosts_and_subsystems(rt: HostRuntime) {
     let host = name(&rt, alloc, "h");
     let at = tree.subsystem_at(b"s").expect(&rt, "there");
     assert!(rt; tree.is_subsystem_place(at));
+    assert!(rt; tree.has_host(&host) && !tree.allows_any_host(at));
     assert!(rt; tree.set_allowed(at, &host, true).is_ok());
     assert!(rt; admits_host(&tree, at, b"h") && !admits_host(&tree, at, b"g"));
     run(&rt, alloc, &mut tree, HOST_ALLOWED);
     assert!(rt; tree.is_subsystem_place(at));
+    assert!(rt; tree.has_host(&host));
     assert!(rt; tree.set_allowed(at, &host, false).is_ok());
     run(&rt, alloc, &mut tree, HOST_FREE);
 }
@@ -139,6 +142,7 @@ fn ports_and_groups(rt: HostRuntime) {
     let port = tree.port_at(1).expect(&rt, "there");
     let sub = tree.subsystem_at(b"s").expect(&rt, "there");
     assert!(rt; tree.is_port_place(port) && tree.is_subsystem_place(sub));
+    assert!(rt; tree.is_loop_port(port));
     assert!(rt; tree.set_link(port, sub, true).is_ok());
     assert!(rt; serves(&tree, port, sub));
     run(&rt, alloc, &mut tree, LINKED);

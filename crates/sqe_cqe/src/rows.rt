@@ -1,3 +1,6 @@
+ghost use Rattle.std.specs.Prelude.{◌≡◌};
+ghost use Rattle.sqe_cqe.specs.Anas.{ana_number, ana_text, ana_named, AnaNamesAgain};
+
 /// An enabled namespace, as commands see it.
 #[derive(Clone, Copy, Debug, PartialEq, Eq)]
 pub struct NsRow {
@@ -35,6 +38,62 @@ pub enum Ana {
     PersistentLoss,
     Changing,
 }
+
+impl Ana {
+    /// The number of the state in the ANA log page (NVMe Base 2.0, 5.16.1.13).
+    pub fn number(self) -> u8
+        ensures { result ≡ ana_number self }
+    {
+        match self {
+            Ana::Optimized => 1,
+            Ana::NonOptimized => 2,
+            Ana::Inaccessible => 3,
+            Ana::PersistentLoss => 4,
+            Ana::Changing => 15,
+        }
+    }
+
+    /// The state's text in nvmet's configfs (`ana_state`).
+    pub fn text(self) -> &'static str
+        ensures { result.now ≡ ana_text self }
+    {
+        match self {
+            Ana::Optimized => "optimized",
+            Ana::NonOptimized => "non-optimized",
+            Ana::Inaccessible => "inaccessible",
+            Ana::PersistentLoss => "persistent-loss",
+            Ana::Changing => "change",
+        }
+    }
+
+    /// The state that a text names in configfs, or `None` where it names none.
+    pub fn named(value: &[u8]) -> Option<Ana>
+        ensures { result ≡ ana_named value.now }
+    {
+        if value == b"optimized".as_slice() {
+            return Some(Ana::Optimized);
+        }
+        if value == b"non-optimized".as_slice() {
+            return Some(Ana::NonOptimized);
+        }
+        if value == b"inaccessible".as_slice() {
+            return Some(Ana::Inaccessible);
+        }
+        if value == b"persistent-loss".as_slice() {
+            return Some(Ana::PersistentLoss);
+        }
+        if value == b"change".as_slice() {
+            return Some(Ana::Changing);
+        }
+        None
+    }
+}
+
+/// A law of the texts of states: a text names a state exactly where it is the state's own text,
+/// so a text that is written is read as the state again.
+pub fn ana_text_again(_value: &[u8], _a: Ana)
+    ensures { AnaNamesAgain _value.now _a }
+{}
 
 /// What a target offers, by the fields of Identify that tell it.
 #[derive(Clone, Copy, Debug, PartialEq, Eq)]

@@ -1,5 +1,7 @@
 // Random edits, compared with a plain slow tree: lists that are scanned, with numbers for names.
-use configfs_tree::{Attr, Folder, FolderEdit, Nqn, Phase, Refused, Tree, admits_host, serves};
+use configfs_tree::{
+    Attr, Folder, FolderEdit, Nqn, Phase, Refused, Tree, admits_host, may_be_disks, serves,
+};
 use mem_bdev::{DiskLine, Name};
 use std::alloc::Global;
 use std::process::Abort;
@@ -563,6 +565,7 @@ fn turn_allowed(rt: &impl Abort, alloc: Global, tree: &mut Tree, slow: &mut Slow
     let at = tree.subsystem_at(nqn.as_bytes()).expect(rt, "in both");
     assert!(rt; tree.is_subsystem_place(at));
     let host_nqn = name(rt, alloc, "h", host);
+    assert!(rt; tree.has_host(&host_nqn) && !tree.allows_any_host(at));
     assert!(rt; tree.set_allowed(at, &host_nqn, linked).is_ok());
     if linked {
         assert!(rt; slow.allowed.push((sub, host)).is_ok());
@@ -585,6 +588,9 @@ fn turn_link(rt: &impl Abort, alloc: Global, tree: &mut Tree, slow: &mut Slow, d
     let port = tree.port_at(id).expect(rt, "in both");
     assert!(rt; tree.is_port_place(port));
     assert!(rt; tree.is_subsystem_place(at));
+    if linked && !tree.is_loop_port(port) {
+        return;
+    }
     assert!(rt; tree.set_link(port, at, linked).is_ok());
     if linked {
         assert!(rt; slow.links.push((id, sub)).is_ok());
@@ -620,6 +626,7 @@ fn line(rt: &impl Abort, alloc: Global, path: &str) -> DiskLine {
 fn five_thousand_random_edits(rt: HostRuntime) {
     let alloc = rt.alloc();
     let lines = [line(&rt, alloc, "/dev/ram0"), line(&rt, alloc, "/dev/ram1")];
+    assert!(rt; may_be_disks(&lines));
     let mut tree = Tree::new(alloc, &lines).expect(&rt, "memory");
     let mut slow = Slow::new(alloc);
     let mut dice = Dice { state: 7 };
@@ -631,6 +638,7 @@ fn five_thousand_random_edits(rt: HostRuntime) {
 #[test]
 fn full_tables(rt: HostRuntime) {
     let alloc = rt.alloc();
+    assert!(rt; may_be_disks(&[]));
     let mut tree = Tree::new(alloc, &[]).expect(&rt, "memory");
     for host in 0..64u64 {
         assert!(rt; told(&rt, alloc, &mut tree, Do::Mkdir(At::Host(host))) == "ok");

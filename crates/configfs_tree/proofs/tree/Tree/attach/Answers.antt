@@ -1,4 +1,5 @@
+use Rattle.configfs_tree.proofs.Stands.{attach_stands}
 use Rattle.configfs_tree.proofs.tree.Tree.attach.Goals as goal
 
-pub returns-clause-stands : goal.returns-clause-stands
-returns-clause-stands c = λ h. record { subsystems = h.subsystems; ports = h.ports; group_one = h.group_one; holders = h.holders }
+pub invariant_of-self : goal.invariant_of-self
+invariant_of-self c = attach_stands c.self.inside.configuration _ c.self.invariant

@@ -1,8 +1,12 @@
-use Rattle.configfs_tree.proofs.KeptTable.{drained_stands}
+use Rattle.std.proofs.Common.{ap, subst, sym, ◌∙◌}
+use Rattle.configfs_tree.specs.Phases.{phase_at}
 use Rattle.configfs_tree.specs.Standing.{IsStanding}
-use Rattle.configfs_tree.specs.declared.tree.Tree.{Tree}
-use Rattle.std.proofs.Common.{subst, sym}
+use Rattle.configfs_tree.specs.declared.configuration.Configuration.{Configuration}
+use Rattle.configfs_tree.proofs.Stands.{drain_stands}
 use Rattle.configfs_tree.proofs.tree.Tree.end_drain.Goals as goal
 
-pub returns-clause-stands : goal.returns-clause-stands
-returns-clause-stands c = λ h. subst (λ (t : Tree). IsStanding t) (sym c.free_disk.ensures) (drained_stands c.args.self.now c.args.sub.now c.args.nsid c.requires h)
+pub invariant_of-self : goal.invariant_of-self
+invariant_of-self c =
+    let t = c.self.inside.configuration in
+    subst (λ (u : Configuration). IsStanding u) (sym c.free_disk.ensures)
+    (drain_stands t c.args.sub.now c.args.nsid (ap (λ (u : Configuration). phase_at u c.args.sub.now c.args.nsid) c.self.view_is ∙ c.requires) c.self.invariant)

@@ -1,5 +1,5 @@
-use Rattle.configfs_tree.proofs.KeptTable.{loaded_stands}
+use Rattle.configfs_tree.proofs.Stands.{load_stands}
 use Rattle.configfs_tree.proofs.tree.Tree.end_load.Goals as goal
 
-pub returns-clause-stands : goal.returns-clause-stands
-returns-clause-stands c = λ h. loaded_stands c.args.self.now h
+pub invariant_of-self : goal.invariant_of-self
+invariant_of-self c = load_stands c.self.inside.configuration c.self.invariant

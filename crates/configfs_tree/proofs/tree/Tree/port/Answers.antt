@@ -1,8 +1,12 @@
-use Rattle.std.proofs.Common.{◌==◌, sym}
+use Rattle.std.proofs.Common.{◌==◌, ap, sym, ◌∙◌}
 use Rattle.std.specs.FinMap as maps
-use Rattle.configfs_tree.specs.declared.ports.PortRow.{PortRow}
-use Rattle.configfs_tree.proofs.Scans.{clash, none_passes}
+use Rattle.configfs_rows.specs.declared.ports.PortRow.{PortRow}
+use Rattle.configfs_rows.proofs.Scans.{clash, none_passes}
+use Rattle.configfs_tree.specs.Asked.{port_place_taken}
+use Rattle.configfs_tree.specs.declared.configuration.Configuration.{Configuration}
 use Rattle.configfs_tree.proofs.tree.Tree.port.Goals as goal
 
 pub unreachable-requires : goal.unreachable-requires
-unreachable-requires c = clash _ c.requires (none_passes (λ (r : PortRow). r.at == c.args.at) (maps.values c.args.self.now.settings.ports) (sym c.in-None.ensures))
+unreachable-requires c =
+    clash _ (ap (λ (t : Configuration). port_place_taken t c.args.at) c.self.view_is ∙ c.requires)
+    (none_passes (λ (r : PortRow). r.at == c.args.at) (maps.values c.self.inside.configuration.settings.ports) (sym c.in-None.ensures))

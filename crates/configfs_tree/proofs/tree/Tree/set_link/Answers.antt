@@ -1,6 +1,12 @@
-use Rattle.configfs_tree.proofs.KeptTable.{either_stands, linked_stands}
-use Rattle.configfs_tree.specs.Links.{with_link, port_row, subsystem_row}
+use Rattle.std.proofs.Common.{ap, ◌∙◌}
+use Rattle.configfs_tree.specs.Links.{with_link, subsystem_row, port_row, is_loop}
+use Rattle.configfs_tree.specs.declared.configuration.Configuration.{Configuration}
+use Rattle.configfs_tree.proofs.Stands.{either_way, link_stands}
 use Rattle.configfs_tree.proofs.tree.Tree.set_link.Goals as goal
 
-pub returns-clause-stands : goal.returns-clause-stands
-returns-clause-stands c = λ h. either_stands c.put_link.result c.args.self.now c.put_link.new.self (with_link c.args.self.now c.args.port c.args.sub c.args.linked) c.put_link.ensures.ok c.put_link.ensures.err (linked_stands c.args.self.now c.args.linked (port_row c.args.self.now c.args.port) (subsystem_row c.args.self.now c.args.sub) h) h
+pub invariant_of-self : goal.invariant_of-self
+invariant_of-self c =
+    let t = c.self.inside.configuration in
+    either_way c.put_link.result t c.put_link.new.self (with_link t c.args.port c.args.sub c.args.linked) c.put_link.ensures.ok c.put_link.ensures.err
+    (link_stands t c.args.port c.args.sub c.args.linked
+    (λ linked. ap (λ (u : Configuration). is_loop (port_row u c.args.port)) c.self.view_is ∙ c.requires.loop_port linked) c.self.invariant) c.self.invariant

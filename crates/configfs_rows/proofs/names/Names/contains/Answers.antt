@@ -1,0 +1,6 @@
+use Rattle.std.specs.Cmp.Lexicographic.{nat_list_cmp_total}
+use Rattle.configfs_rows.proofs.Seen.{seen_get}
+use Rattle.configfs_rows.proofs.names.Names.contains.Goals as goal
+
+pub returns : goal.returns
+returns c = rw (← c.self.view_is, seen_get nat_list_cmp_total) c.contains_key.ensures

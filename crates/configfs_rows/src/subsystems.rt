@@ -1,0 +1,262 @@
+ghost use Rattle.std.specs.Prelude.{◌≡◌, ◌==◌, ◌||◌, nat_lt, false, OnOk, OnErr, IsOk, IfOk};
+ghost use Rattle.std.specs.Option.{option_copied};
+ghost use Rattle.std.specs.List.{list_any, find, slice_get};
+ghost use Rattle.std.specs.FinMap as map;
+ghost use Rattle.configfs_rows.specs.Maps.{update_at};
+ghost use Rattle.configfs_rows.specs.Places.{lowest_free};
+ghost use Rattle.configfs_rows.specs.Subsystems.{fresh_subsystem, put_namespace, add_namespace, remove_namespace, put_in_subsystem, put_allowed};
+
+use crate::limits::MAX_SUBSYSTEMS;
+use crate::names::Names;
+use crate::namespaces::{NamespacePut, Namespaces};
+use crate::nqn::Nqn;
+use mem_bdev::Name;
+use std::alloc::{AllocError, Global};
+use std::collections::BTreeMap;
+use std::collections::btree_map::Values;
+use std::marker::Model;
+
+/// A subsystem: its NQN, its position (the lowest free one as it was made, kept until it is
+/// removed), whether it allows any host, its serial number (at most 20 bytes), its model number
+/// (1 to 40 bytes), the hosts that it allows, and its namespaces.
+#[derive(Drop)]
+pub struct SubsystemRow {
+    pub nqn: Nqn,
+    pub at: u8,
+    pub allow_any_host: bool,
+    pub serial: Name,
+    pub model_name: Name,
+    pub allowed_hosts: Names,
+    pub namespaces: Namespaces,
+}
+
+/// A new value of an attribute of a subsystem.
+#[derive(Drop)]
+pub enum SubsystemPut {
+    AllowAnyHost(bool),
+    Serial(Name),
+    ModelName(Name),
+}
+
+impl SubsystemRow {
+    // Whether it has a namespace or an allowed host.
+    pub fn is_filled(&self) -> bool
+        ensures { result ≡ (nat_lt 0 (map.len self.now.namespaces) || nat_lt 0 (map.len self.now.allowed_hosts)) }
+    {
+        self.namespaces.len() > 0 || self.allowed_hosts.len() > 0
+    }
+
+    // A subsystem as it is made.
+    pub fn fresh(alloc: Global, nqn: &Nqn, at: u8) -> Result<Self, AllocError>
+        ensures { IfOk result (λ s. s ≡ fresh_subsystem nqn.now at) }
+    {
+        let serial = Name::copied(alloc, b"00000000000000000001")?;
+        let model_name = Name::copied(alloc, b"Linux")?;
+        Ok(SubsystemRow {
+            nqn: nqn.copied(),
+            at,
+            allow_any_host: false,
+            serial,
+            model_name,
+            allowed_hosts: Names::new(alloc),
+            namespaces: Namespaces::new(alloc),
+        })
+    }
+
+    // Puts a value into its attribute.
+    fn put(&mut self, put: SubsystemPut)
+        ensures { self.new ≡ put_in_subsystem put self.old }
+    {
+        match put {
+            SubsystemPut::AllowAnyHost(any) => self.allow_any_host = any,
+            SubsystemPut::Serial(serial) => self.serial = serial,
+            SubsystemPut::ModelName(name) => self.model_name = name,
+        }
+    }
+}
+
+/// The subsystems by NQN. Contracts see a finite map.
+#[derive(Drop)]
+pub struct Subsystems {
+    rows: BTreeMap<Nqn, SubsystemRow>,
+}
+
+impl Model for Subsystems {
+    ghost use Rattle.std.specs.FinMap as map;
+    ghost use Rattle.std.specs.Coded.{coded_ℕ, coded_list};
+    ghost use Rattle.configfs_rows.specs.Nqns.{name_order};
+    ghost use Rattle.configfs_rows.specs.declared.subsystems.SubsystemRow.{SubsystemRow};
+    ghost use Rattle.configfs_rows.specs.contracts.subsystems.SubsystemRow as row;
+
+    ghost Value = { map.FinMap name_order SubsystemRow };
+
+    ghost coded = { map.code (coded_list coded_ℕ) row.the_row.coded };
+
+    ghost view = { λ s. map.from_entries s.rows.entries };
+}
+
+impl Subsystems {
+    // No subsystem.
+    pub fn new(alloc: Global) -> Self
+        ensures { result ≡ map.empty }
+    {
+        Subsystems {
+            rows: BTreeMap::new(alloc),
+        }
+    }
+
+    /// The subsystem of a name.
+    pub fn get(&self, name: &Nqn) -> Option<&SubsystemRow>
+        ensures { option_copied result ≡ map.get self.now name.now }
+    {
+        self.rows.get(name)
+    }
+
+    // Puts a value into a namespace of a subsystem.
+    pub fn put_namespace(&mut self, name: &Nqn, nsid: u32, put: NamespacePut)
+        ensures { self.new ≡ update_at self.old name.now (put_namespace nsid put) }
+    {
+        let Some(row) = self.rows.get_mut(name) else {
+            return;
+        };
+        row.namespaces.put(nsid, put);
+    }
+
+    // Makes a namespace, where the subsystem is there. On want of memory all is as before.
+    pub fn add_namespace(&mut self, name: &Nqn, nsid: u32) -> Result<(), AllocError>
+        ensures ok { OnOk result (self.new ≡ update_at self.old name.now (add_namespace nsid)) }
+        ensures err { OnErr result (self.new ≡ self.old) }
+    {
+        let Some(row) = self.rows.get_mut(name) else {
+            return Ok(());
+        };
+        row.namespaces.add(nsid)?;
+        Ok(())
+    }
+
+    // Takes a namespace away.
+    pub fn remove_namespace(&mut self, name: &Nqn, nsid: u32)
+        ensures { self.new ≡ update_at self.old name.now (remove_namespace nsid) }
+    {
+        let Some(row) = self.rows.get_mut(name) else {
+            return;
+        };
+        row.namespaces.remove(nsid);
+    }
+
+    // Whether a subsystem allows the host by a link.
+    pub fn some_allows(&self, host: &Nqn) -> bool
+        ensures { result ≡ list_any (λ s. map.contains_key s.allowed_hosts host.now) (map.values self.now) }
+    {
+        for row in self.rows.values() {
+            if row.allowed_hosts.contains(host) {
+                return true;
+            }
+        }
+        false
+    }
+
+    /// How many subsystems there are.
+    pub fn len(&self) -> usize
+        ensures { result ≡ map.len self.now }
+    {
+        self.rows.len()
+    }
+
+    // Makes a subsystem. On want of memory all is as before.
+    pub fn add(&mut self, name: Nqn, row: SubsystemRow) -> Result<(), AllocError>
+        ensures ok { OnOk result (self.new ≡ map.insert self.old name row) }
+        ensures err { OnErr result (self.new ≡ self.old) }
+    {
+        self.rows.insert(name, row)?;
+        Ok(())
+    }
+
+    /// Whether a subsystem stands at the position.
+    pub fn has_place(&self, at: u8) -> bool
+        ensures { result ≡ list_any (λ s. s.at == at) (map.values self.now) }
+    {
+        for row in self.rows.values() {
+            if row.at == at {
+                return true;
+            }
+        }
+        false
+    }
+
+    // The lowest free position.
+    pub fn free_place(&self) -> u8
+        ensures { result ≡ lowest_free MAX_SUBSYSTEMS 0 (λ at. list_any (λ s. s.at == at) (map.values self.now)) }
+    {
+        for at in 0..MAX_SUBSYSTEMS as u8 {
+            if !self.has_place(at) {
+                return at;
+            }
+        }
+        MAX_SUBSYSTEMS as u8
+    }
+
+    // Puts a value into a subsystem, where it is there.
+    pub fn put(&mut self, name: &Nqn, put: SubsystemPut)
+        ensures { self.new ≡ update_at self.old name.now (put_in_subsystem put) }
+    {
+        let Some(row) = self.rows.get_mut(name) else {
+            return;
+        };
+        row.put(put);
+    }
+
+    // Takes a subsystem away.
+    pub fn remove(&mut self, name: &Nqn)
+        ensures { self.new ≡ map.remove self.old name.now }
+    {
+        let _ = self.rows.remove(name);
+    }
+
+    /// The subsystem at a position.
+    pub fn at(&self, at: u8) -> Option<&SubsystemRow>
+        ensures { option_copied result ≡ find (λ s. s.at == at) (map.values self.now) }
+    {
+        for row in self.rows.values() {
+            if row.at == at {
+                return Some(row);
+            }
+        }
+        None
+    }
+
+    /// The subsystems in byte order of NQN.
+    pub fn iter(&self) -> Values<'_, Nqn, SubsystemRow>
+        ensures { result ≡ map.values self.now }
+    {
+        self.rows.values()
+    }
+
+    /// The subsystem with this number, from 0, in byte order of NQN; `None` exactly where there
+    /// are not more than so many.
+    pub fn nth(&self, n: usize) -> Option<&SubsystemRow>
+        ensures { option_copied result ≡ slice_get (map.values self.now) n }
+    {
+        let mut left = n;
+        for row in self.rows.values() {
+            if left == 0 {
+                return Some(row);
+            }
+            left -= 1;
+        }
+        None
+    }
+
+    // Makes the link to a host, or takes it away.
+    pub fn put_allowed(&mut self, name: &Nqn, host: &Nqn, linked: bool) -> Result<(), AllocError>
+        ensures ok { OnOk result (self.new ≡ update_at self.old name.now (put_allowed host.now linked)) }
+        ensures err { OnErr result (self.new ≡ self.old) }
+        ensures taken { linked ≡ false → IsOk result }
+    {
+        let Some(row) = self.rows.get_mut(name) else {
+            return Ok(());
+        };
+        row.allowed_hosts.keep_or_take(host, linked)?;
+        Ok(())
+    }
+}

@@ -1,9 +1,0 @@
-use Rattle.std.proofs.Common.{◌≡◌, ◌==◌, ◌-◌}
-use Rattle.std.specs.List.{list_any}
-use Rattle.std.specs.FinMap as map
-use Rattle.configfs_tree.specs.Places.{lowest_free}
-use Rattle.configfs_tree.specs.declared.limits.TheConstants.{MAX_PORTS}
-use Rattle.configfs_tree.proofs.ports.Ports.free_place.Given as goal
-
-abbrev pub invariant-loop-at : goal.invariant-loop-at
-invariant-loop-at l = lowest_free MAX_PORTS 0 (λ at. list_any (λ p. p.at == at) (map.values l.self)) ≡ lowest_free (MAX_PORTS - l.at) l.at (λ at. list_any (λ p. p.at == at) (map.values l.self))
