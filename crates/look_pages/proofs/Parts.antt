@@ -90,7 +90,7 @@ zero_at k i = elim (cut i k) [
 ]
 
 -- zeros after bytes are read past their end too
-get_or-filled : (size : ℕ) (bytes : List ℕ) (i : ℕ) → get_or (filled size bytes) i 0 ≡ get_or bytes i 0
+pub get_or-filled : (size : ℕ) (bytes : List ℕ) (i : ℕ) → get_or (filled size bytes) i 0 ≡ get_or bytes i 0
 unfolding filled
 get_or-filled size bytes i = elim (cut i (length bytes)) [
   | inl low ↦ get_or_append_left bytes (zeros (size - length bytes)) 0 i low
