@@ -55,8 +55,8 @@ fn may_step(s: &State, seat: u32, view: &View, k: &Kind) -> bool
     }
 }
 
-/// Whether the seat may take the step: it is a seat, what the kind names is there, and the kind's condition holds. It
-/// takes no memory and changes nothing.
+/// Whether the seat may take the step: it is a seat, what the kind names is there, and the kind's
+/// condition holds. It takes no memory and changes nothing.
 pub fn may_take_step(s: &State, seat: u32, k: &Kind) -> bool
     requires { length s.now.editor.drains ≡ length s.now.disks }
     ensures { IsTrue result ↔ IsAllowed s.now seat k.now }

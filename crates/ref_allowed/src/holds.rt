@@ -14,7 +14,8 @@ pub enum HoldTest {
     On(u32),
     /// It is on this disk, and a bare call took it or its Execute is placed.
     MayPut(u32),
-    /// It is on this disk, and of the command of this caller and number, whose Execute isn't placed.
+    /// It is on this disk, and of the command of this caller and number, whose Execute isn't
+    /// placed.
     Held(Tag, u32),
 }
 
@@ -97,7 +98,10 @@ pub fn remove_hold(holds: &mut Items<Hold>, test: &HoldTest)
 
 /// Marks that hold as having its Execute placed, where one passes.
 pub fn mark_executed(holds: &mut Items<Hold>, test: &HoldTest)
-    ensures { holds.new ≡ change (is_least (passes test.now) holds.old) (λ h. record h { executed = true }) holds.old }
+    ensures { holds.new ≡ change (is_least (passes test.now) holds.old) (λ h. record h {
+      executed =
+          true;
+    }) holds.old }
 {
     if let Some(i) = hold_index(holds, test) {
         holds.at_mut(i).executed = true;

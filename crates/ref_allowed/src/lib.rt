@@ -1,7 +1,8 @@
-//! Where a step of the concurrency core is allowed, decided over its state, and which hold a step takes.
+//! Where a step of the concurrency core is allowed, decided over its state, and which hold a step
+//! takes.
 //!
-//! Promises: `may_take_step` is true exactly where the one step relation allows the step. The tests of the topics are one
-//! file each: sections, the two sides, references, drains, parts, turns.
+//! Promises: `may_take_step` is true exactly where the one step relation allows the step. The tests
+//! of the topics are one file each: sections, the two sides, references, drains, parts, turns.
 #![tactic(auto)]
 
 pub mod allowance;

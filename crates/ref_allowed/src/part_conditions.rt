@@ -36,7 +36,8 @@ fn is_lent(call: &Tag) -> bool
 
 // The entry at the place is kept, and of such a call.
 fn keeps_lent(entries: &Items<Entry>, place: u32) -> bool
-    ensures { IsTrue result ↔ ((e : EntryRecord) × (first (is_at place) entries.now ≡ Some e) × ((e.call.kind ≡ CONTROL) ⊎ (e.call.kind ≡ THROUGH))) }
+    ensures { IsTrue result ↔ ((e : EntryRecord) × (first (is_at place) entries.now ≡ Some e)
+        × ((e.call.kind ≡ CONTROL) ⊎ (e.call.kind ≡ THROUGH))) }
 {
     match entry_at(entries, place) {
         Some(e) => is_lent(&e.call),
@@ -64,7 +65,8 @@ pub fn may_split(view: &View, take: Take) -> bool
 
 // It isn't spent, and has no section, mode or turn in hand.
 fn is_idle(part: &View) -> bool
-    ensures { IsTrue result ↔ ((part.now.role ≢ Role.Spent) × (part.now.section ≡ Section.Out) × (part.now.loaded ≡ LoadedMode.NotLoaded) × (part.now.turns ≡ [])) }
+    ensures { IsTrue result ↔ ((part.now.role ≢ Role.Spent) × (part.now.section ≡ Section.Out)
+        × (part.now.loaded ≡ LoadedMode.NotLoaded) × (part.now.turns ≡ [])) }
 {
     !is_spent(&part.role)
         && is_out(&part.section)
@@ -74,7 +76,10 @@ fn is_idle(part: &View) -> bool
 
 /// The seat may take the part in.
 pub fn may_join(s: &State, seat: u32, part: u32) -> bool
-    ensures { IsTrue result ↔ ((part ≢ seat) × (part ≢ 0) × (part < length s.now.views) × ((view s.now.views part).role ≢ Role.Spent) × ((view s.now.views part).section ≡ Section.Out) × ((view s.now.views part).loaded ≡ LoadedMode.NotLoaded) × ((view s.now.views part).turns ≡ [])) }
+    ensures { IsTrue result ↔ ((part ≢ seat) × (part ≢ 0) × (part < length s.now.views)
+        × ((view s.now.views part).role ≢ Role.Spent) × ((view s.now.views part).section
+        ≡ Section.Out) × ((view s.now.views part).loaded ≡ LoadedMode.NotLoaded)
+        × ((view s.now.views part).turns ≡ [])) }
 {
     part != seat
         && part != 0

@@ -37,7 +37,8 @@ fn any_hold(holds: &Items<Hold>, test: &HoldTest) -> bool
 
 /// The mode of the disk may be loaded.
 pub fn may_load_mode(s: &State, view: &View, disk: u32) -> bool
-    ensures { IsTrue result ↔ ((disk < length s.now.disks) × (is_open view.now.section ≡ true) × MayLoad s.now.editor view.now disk) }
+    ensures { IsTrue result ↔ ((disk < length s.now.disks) × (is_open view.now.section ≡ true)
+        × MayLoad s.now.editor view.now disk) }
 {
     (disk as usize) < s.disks.len() && is_entered(&view.section) && may_load(&s.editor, view, disk)
 }
@@ -86,7 +87,8 @@ fn may_add(editor: &Editor, view: &View, disk: u32, up: bool) -> bool
 
 /// A get or a put on the own counter is allowed.
 pub fn may_add_own(s: &State, view: &View, disk: u32, up: bool) -> bool
-    ensures { IsTrue result ↔ ((view.now.loaded ≡ LoadedMode.Live disk) × MayAdd s.now.editor view.now disk up × (disk < length s.now.disks)) }
+    ensures { IsTrue result ↔ ((view.now.loaded ≡ LoadedMode.Live disk)
+        × MayAdd s.now.editor view.now disk up × (disk < length s.now.disks)) }
 {
     is_live_on(&view.loaded, disk)
         && may_add(&s.editor, view, disk, up)
@@ -95,7 +97,8 @@ pub fn may_add_own(s: &State, view: &View, disk: u32, up: bool) -> bool
 
 /// A get or a put on the shared count is allowed.
 pub fn may_add_shared(s: &State, view: &View, disk: u32, up: bool) -> bool
-    ensures { IsTrue result ↔ ((view.now.loaded ≡ LoadedMode.Killed disk) × MayAdd s.now.editor view.now disk up × (disk < length s.now.disks)) }
+    ensures { IsTrue result ↔ ((view.now.loaded ≡ LoadedMode.Killed disk)
+        × MayAdd s.now.editor view.now disk up × (disk < length s.now.disks)) }
 {
     is_killed_on(&view.loaded, disk)
         && may_add(&s.editor, view, disk, up)

@@ -70,7 +70,8 @@ pub fn may_load_row(s: &State, view: &View, word: u32) -> bool
 
 /// A section is open, and no mode is in hand.
 pub fn may_leave(view: &View) -> bool
-    ensures { IsTrue result ↔ ((is_open view.now.section ≡ true) × (view.now.loaded ≡ LoadedMode.NotLoaded)) }
+    ensures { IsTrue result ↔ ((is_open view.now.section ≡ true)
+        × (view.now.loaded ≡ LoadedMode.NotLoaded)) }
 {
     is_entered(&view.section) && is_not_loaded(&view.loaded)
 }

@@ -49,7 +49,8 @@ pub fn phase_of(editor: &Editor, disk: usize) -> Phase
 
 /// The editor's seat may write a word of the spare side.
 pub fn may_store(s: &State, seat: u32, word: u32) -> bool
-    ensures { IsTrue result ↔ ((seat ≡ 0) × (word < s.now.rows) × AllPassed s.now.seats s.now.editor.marks) }
+    ensures { IsTrue result ↔ ((seat ≡ 0) × (word < s.now.rows)
+        × AllPassed s.now.seats s.now.editor.marks) }
 {
     seat == 0 && word < s.rows && have_passed(&s.editor.marks, s.seats)
 }
@@ -68,14 +69,17 @@ fn spare_word(s: &State, word: usize) -> u64
 
 // The spare side doesn't show the disk, or it is live.
 fn spare_allows(s: &State, disk: usize) -> bool
-    ensures { IsTrue result ↔ (slice_index (side s.now (s.now.serial + 1)) disk ≢ 0 → (drain s.now.editor disk).phase ≡ Phase.Live) }
+    ensures { IsTrue result ↔ (slice_index (side s.now (s.now.serial + 1)) disk ≢ 0
+        → (drain s.now.editor disk).phase ≡ Phase.Live) }
 {
     spare_word(s, disk) == 0 || is_phase(phase_of(&s.editor, disk), Phase::Live)
 }
 
 // Each disk that the spare side shows is live.
 fn spare_shows_live(s: &State) -> bool
-    ensures { IsTrue result ↔ ((d : ℕ) → d < length s.now.disks → slice_index (side s.now (s.now.serial + 1)) d ≢ 0 → (drain s.now.editor d).phase ≡ Phase.Live) }
+    ensures { IsTrue result ↔ ((d : ℕ) → d < length s.now.disks
+        → slice_index (side s.now (s.now.serial + 1)) d ≢ 0 → (drain s.now.editor d).phase
+        ≡ Phase.Live) }
 {
     for d in 0..s.disks.len() {
         if !spare_allows(s, d) {
@@ -87,7 +91,10 @@ fn spare_shows_live(s: &State) -> bool
 
 /// The editor's seat may publish the spare side.
 pub fn may_publish(s: &State, seat: u32, view: &View) -> bool
-    ensures { IsTrue result ↔ ((seat ≡ 0) × (0 < view.now.left) × AllPassed s.now.seats s.now.editor.marks × ((d : ℕ) → d < length s.now.disks → slice_index (side s.now (s.now.serial + 1)) d ≢ 0 → (drain s.now.editor d).phase ≡ Phase.Live)) }
+    ensures { IsTrue result ↔ ((seat ≡ 0) × (0 < view.now.left)
+        × AllPassed s.now.seats s.now.editor.marks × ((d : ℕ) → d < length s.now.disks
+        → slice_index (side s.now (s.now.serial + 1)) d ≢ 0 → (drain s.now.editor d).phase
+        ≡ Phase.Live)) }
 {
     seat == 0 && view.left > 0 && have_passed(&s.editor.marks, s.seats) && spare_shows_live(s)
 }

@@ -36,14 +36,16 @@ fn has_no_turn(view: &View, slot: u32) -> bool
 
 /// The slot is there, and its turn is not in hand.
 pub fn may_take_turn(s: &State, view: &View, slot: u32) -> bool
-    ensures { IsTrue result ↔ ((slot < length s.now.turns) × (first (is_slot slot) view.now.turns ≡ None)) }
+    ensures { IsTrue result ↔ ((slot < length s.now.turns) × (first (is_slot slot) view.now.turns
+        ≡ None)) }
 {
     (slot as usize) < s.turns.len() && has_no_turn(view, slot)
 }
 
 /// A place is left, and the hold of the command is kept.
 pub fn may_place_execute(s: &State, view: &View, slot: u32, call: Tag) -> bool
-    ensures { IsTrue result ↔ ((0 < view.now.left) × (slot < length s.now.turns) × Some_where (is_held call (slot / EXTENTS)) view.now.holds) }
+    ensures { IsTrue result ↔ ((0 < view.now.left) × (slot < length s.now.turns)
+        × Some_where (is_held call (slot / EXTENTS)) view.now.holds) }
 {
     view.left > 0 && (slot as usize) < s.turns.len() && keeps_held(view, call, slot / EXTENTS)
 }

@@ -17,7 +17,8 @@ module _ {A : Type 0} (f : A → A) where
   mapped_at (x ∷ xs) zero d = refl
   mapped_at (x ∷ xs) (suc i) d = mapped_at xs i d
 
-  pub mapped_step : (xs : List A) (i : ℕ) (d : A) → i < length xs → set (mapped xs i) i (f (get_or xs i d)) ≡ mapped xs (suc i)
+  pub mapped_step : (xs : List A) (i : ℕ) (d : A) → i < length xs
+      → set (mapped xs i) i (f (get_or xs i d)) ≡ mapped xs (suc i)
   mapped_step [] i d h = absurd (omega arith)
   mapped_step (x ∷ xs) zero d h = refl
   mapped_step (x ∷ xs) (suc i) d h = ap (λ l. f x ∷ l) (mapped_step xs i d (omega arith))

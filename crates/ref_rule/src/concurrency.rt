@@ -22,8 +22,8 @@ impl From<AllocError> for Memory {
     }
 }
 
-/// The concurrency core of a table: shared words and what each seat keeps, as plain data. Contracts see it as its state,
-/// which is sound at all times.
+/// The concurrency core of a table: shared words and what each seat keeps, as plain data. Contracts
+/// see it as its state, which is sound at all times.
 #[derive(Drop)]
 pub struct Core {
     state: State,
@@ -42,15 +42,16 @@ impl Model for Core {
 }
 
 impl Core {
-    /// One seat for each quota, the number of places that it may draw; `disks` disks with a slot for each extent; two sides of
-    /// `rows` words, all 0. Only want of memory is refused.
+    /// One seat for each quota, the number of places that it may draw; `disks` disks with a slot
+    /// for each extent; two sides of `rows` words, all 0. Only want of memory is refused.
     pub fn opened(alloc: Global, quotas: &[u32], disks: u32, rows: u32) -> Result<Core, Memory>
         requires some { 0 < length quotas.now }
         requires seats { length quotas.now ≤ MAX_SEATS }
         requires sum { sum_of quotas.now < 2 ^ 32 }
         requires disks { disks ≤ MAX_DISKS }
         requires rows { disks ≤ rows }
-        ensures { IfOk result (λ c. c ≡ opened_core quotas.now disks (EXTENTS * disks) (replicate rows 0)) }
+        ensures { IfOk result (λ c. c ≡ opened_core quotas.now disks (EXTENTS * disks)
+            (replicate rows 0)) }
     {
         let state = opened_state(alloc, quotas, disks, rows)?;
         Ok(Core { state })
@@ -78,21 +79,21 @@ fn take_step(alloc: Global, s: &mut State, seat: u32, k: &Kind) -> Result<Answer
         Kind::DrawPlace { call } => Ok(sections::draw_place(s, seat, call)),
         Kind::LoadRow { word } => Ok(sections::load_row(s, seat, word)),
         Kind::LeaveSection => sections::leave_section(alloc, s, seat),
-        Kind::StoreRow { word, value } => sections::store_row(alloc, s, seat, word, value),
+        Kind::StoreRow { word, value } => sections::store_row(alloc, s, word, value),
         Kind::Publish { call } => sections::publish(alloc, s, seat, call),
-        Kind::LookSection { other } => Ok(sections::look_section(s, seat, other)),
+        Kind::LookSection { other } => Ok(sections::look_section(s, other)),
         Kind::LoadMode { disk } => Ok(references::load_mode(s, seat, disk)),
         Kind::AddOwn { disk, up } => references::add_own(alloc, s, seat, disk, up),
         Kind::AddShared { disk, up } => references::add_shared(alloc, s, seat, disk, up),
         Kind::Split { take } => parts::split(alloc, s, seat, take),
         Kind::Join { part } => parts::join(alloc, s, seat, part),
-        Kind::Kill { disk } => references::kill(alloc, s, seat, disk),
-        Kind::LookCounter { disk, other } => Ok(references::look_counter(s, seat, disk, other)),
-        Kind::Fold { disk, delta } => references::fold(alloc, s, seat, disk, delta),
-        Kind::LookZero { disk } => Ok(references::look_zero(s, seat, disk)),
+        Kind::Kill { disk } => references::kill(alloc, s, disk),
+        Kind::LookCounter { disk, other } => Ok(references::look_counter(s, disk, other)),
+        Kind::Fold { disk, delta } => references::fold(alloc, s, disk, delta),
+        Kind::LookZero { disk } => Ok(references::look_zero(s, disk)),
         Kind::PlaceDone { disk, call } => references::place_done(alloc, s, seat, disk, call),
-        Kind::LiveShared { disk } => Ok(references::live_shared(s, seat, disk)),
-        Kind::LiveMode { disk } => Ok(references::live_mode(s, seat, disk)),
+        Kind::LiveShared { disk } => Ok(references::live_shared(s, disk)),
+        Kind::LiveMode { disk } => Ok(references::live_mode(s, disk)),
         Kind::TakeTurn { slot } => turns::take_turn(alloc, s, seat, slot),
         Kind::SlotOut { slot } => Ok(turns::slot_out(s, seat, slot)),
         Kind::PlaceExecute { slot, call } => turns::place_execute(alloc, s, seat, slot, call),
@@ -101,16 +102,16 @@ fn take_step(alloc: Global, s: &mut State, seat: u32, k: &Kind) -> Result<Answer
     }
 }
 
-/// Whether the seat may take the step: it is a seat, what the kind names is there, and the kind's condition holds. It
-/// takes no memory and changes nothing.
+/// Whether the seat may take the step: it is a seat, what the kind names is there, and the kind's
+/// condition holds. It takes no memory and changes nothing.
 pub fn allowed(c: &Core, seat: u32, k: &Kind) -> bool
     ensures { IsTrue result ↔ IsAllowed c.now seat k.now }
 {
     may_take_step(c.state(), seat, k)
 }
 
-/// The seat takes a step. It leaves and answers what the one step relation says; where memory is refused, the core is as
-/// before.
+/// The seat takes a step. It leaves and answers what the one step relation says; where memory is
+/// refused, the core is as before.
 pub fn step(alloc: Global, c: &mut Core, seat: u32, k: &Kind) -> Result<Answer, Memory>
     requires { IsAllowed c.old seat k.now }
     ensures done { OnOk result (c.new ≡ next_core c.old seat k.now) }

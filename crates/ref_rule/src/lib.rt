@@ -1,9 +1,10 @@
-//! The concurrency core of the target, to be run step by step: read sections over two sides of words, references that
-//! split into one counter per seat and fold back, and turns of extents.
+//! The concurrency core of the target, to be run step by step: read sections over two sides of
+//! words, references that split into one counter per seat and fold back, and turns of extents.
 //!
-//! Promises: `step` leaves and answers exactly what the one step relation says, and `allowed` is true exactly where it
-//! allows the step. That every allowed step keeps the core sound is a law of the crate below (`laws`).
-//! It follows the kernel's RCU read sections and its percpu reference counter (lib/percpu-refcount.c).
+//! Promises: `step` leaves and answers exactly what the one step relation says, and `allowed` is
+//! true exactly where it allows the step. That every allowed step keeps the core sound is a law of
+//! the crate below (`laws`). It follows the kernel's RCU read sections and its percpu reference
+//! counter (lib/percpu-refcount.c).
 #![tactic(auto)]
 
 pub mod concurrency;

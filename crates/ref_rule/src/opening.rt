@@ -111,7 +111,14 @@ fn fresh_editor(
     disks: usize,
     rows: usize,
 ) -> Result<Editor, AllocError>
-    ensures { IfOk result (λ e. e ≡ record { confs = replicate rows 0 ∷ []; published = []; pending = []; marks = replicate seats Mark.Passed; drains = replicate disks (live_drain seats) }) }
+    ensures { IfOk result (λ e. e ≡ record {
+      confs = replicate rows 0 ∷ [];
+      published = [];
+      pending = [];
+      marks = replicate seats Mark.Passed;
+      drains =
+          replicate disks (live_drain seats);
+    }) }
 {
     let mut confs = Items::new(alloc);
     confs.push(zero_rows(alloc, rows)?)?;
@@ -126,7 +133,8 @@ fn fresh_editor(
     })
 }
 
-/// The state of an opened core: one seat for each quota, a slot for each extent of a disk, and sides of zeros.
+/// The state of an opened core: one seat for each quota, a slot for each extent of a disk, and
+/// sides of zeros.
 pub fn opened_state(
     alloc: Global,
     quotas: &[u32],
@@ -136,7 +144,8 @@ pub fn opened_state(
     requires seats { length quotas.now ≤ MAX_SEATS }
     requires sum { sum_of quotas.now < 2 ^ 32 }
     requires disks { disks ≤ MAX_DISKS }
-    ensures { IfOk result (λ s. s ≡ opened_core quotas.now disks (EXTENTS * disks) (replicate rows 0)) }
+    ensures { IfOk result (λ s. s ≡ opened_core quotas.now disks (EXTENTS * disks)
+        (replicate rows 0)) }
 {
     let seats = quotas.len();
     let sides = zero_sides(alloc, rows as usize)?;

@@ -106,7 +106,12 @@ pub fn split(alloc: Global, s: &mut State, seat: u32, take: Take) -> Result<Answ
 // A seat with all that a part kept, which has seen what either had.
 fn join_into(view: &mut View, holds: Items<Hold>, entries: Items<Entry>, left: u32, seen: u32)
     requires { view.old.left + left < 2 ^ 32 }
-    ensures { view.new ≡ record view.old { holds = holds; left = view.old.left + left; seen = max view.old.seen seen; entries = entries } }
+    ensures { view.new ≡ record view.old {
+      holds = holds;
+      left = view.old.left + left;
+      seen = max view.old.seen seen;
+      entries = entries;
+    } }
 {
     view.holds = holds;
     view.left += left;

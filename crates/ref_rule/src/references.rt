@@ -1,4 +1,5 @@
-//! Steps on a disk's reference: gets and puts, and what the editor does from the kill to the next life.
+//! Steps on a disk's reference: gets and puts, and what the editor does from the kill to the next
+//! life.
 ghost use Rattle.std.specs.Prelude.{◌≡◌, ◌+◌, ◌++◌, ◌%◌, ◌^◌, ◌<◌, length, map, true, false, if◌then◌else◌, IfOk, OnErr, OnOk, slice_index_or, slice_set};
 ghost use Rattle.ref_state.specs.State.{view, disk as disk_at, no_count};
 ghost use Rattle.ref_state.specs.Steps.{next_core, answer_of, count_after, word_after, count_or, hold_of, section_got, loaded_mode, may_put, without_least, after_add};
@@ -113,7 +114,15 @@ fn holds_after(alloc: Global, view: &View, disk: u32, up: bool) -> Result<Items<
 // What the seat keeps after a get or a put.
 fn add_hold(s: &mut State, seat: u32, holds: Items<Hold>, up: bool)
     requires { seat < length s.old.views }
-    ensures { s.new ≡ record s.old { views = slice_set s.old.views seat (record (view s.old.views seat) { loaded = LoadedMode.NotLoaded; section = (if up then section_got (view s.old.views seat).section else (view s.old.views seat).section); holds = holds }) } }
+    ensures { s.new ≡ record s.old {
+      views =
+          slice_set s.old.views seat (record (view s.old.views seat) {
+            loaded = LoadedMode.NotLoaded;
+            section = (if up then section_got (view s.old.views seat).section else
+                (view s.old.views seat).section);
+            holds = holds;
+          });
+    } }
 {
     let view = s.views.at_mut(seat as usize);
     view.holds = holds;
@@ -133,8 +142,10 @@ pub fn add_own(
 ) -> Result<Answer, AllocError>
     requires there { seat < length s.old.views }
     requires disk { disk < length s.old.disks }
-    requires up { up ≡ true → (slice_index_or (disk_at s.old disk).own seat no_count).ups + 1 < 2 ^ 64 }
-    requires down { up ≡ false → (slice_index_or (disk_at s.old disk).own seat no_count).downs + 1 < 2 ^ 64 }
+    requires up { up ≡ true → (slice_index_or (disk_at s.old disk).own seat no_count).ups
+        + 1 < 2 ^ 64 }
+    requires down { up ≡ false → (slice_index_or (disk_at s.old disk).own seat no_count).downs
+        + 1 < 2 ^ 64 }
     ensures done { OnOk result (s.new ≡ next_core s.old seat (Kind.AddOwn disk up)) }
     ensures answer { IfOk result (λ a. a ≡ answer_of s.old seat (Kind.AddOwn disk up)) }
     ensures memory { OnErr result (s.new ≡ s.old) }
@@ -170,11 +181,11 @@ pub fn add_shared(
 }
 
 /// The mode is killed, and a grace period begins.
-pub fn kill(alloc: Global, s: &mut State, seat: u32, disk: u32) -> Result<Answer, AllocError>
+pub fn kill(alloc: Global, s: &mut State, disk: u32) -> Result<Answer, AllocError>
     requires disk { disk < length s.old.disks }
     requires drain { disk < length s.old.editor.drains }
-    ensures done { OnOk result (s.new ≡ next_core s.old seat (Kind.Kill disk)) }
-    ensures answer { IfOk result (λ a. a ≡ answer_of s.old seat (Kind.Kill disk)) }
+    ensures done { OnOk result (s.new ≡ next_core s.old 0 (Kind.Kill disk)) }
+    ensures answer { IfOk result (λ a. a ≡ answer_of s.old 0 (Kind.Kill disk)) }
     ensures memory { OnErr result (s.new ≡ s.old) }
 {
     let marks = Items::copies(alloc, s.seats as usize, Mark::Unseen)?;
@@ -188,11 +199,11 @@ pub fn kill(alloc: Global, s: &mut State, seat: u32, disk: u32) -> Result<Answer
 }
 
 /// A seat's own counter is looked at.
-pub fn look_counter(s: &mut State, seat: u32, disk: u32, other: u32) -> Answer
+pub fn look_counter(s: &mut State, disk: u32, other: u32) -> Answer
     requires disk { disk < length s.old.disks }
     requires drain { disk < length s.old.editor.drains }
-    ensures done { s.new ≡ next_core s.old seat (Kind.LookCounter disk other) }
-    ensures answer { result ≡ answer_of s.old seat (Kind.LookCounter disk other) }
+    ensures done { s.new ≡ next_core s.old 0 (Kind.LookCounter disk other) }
+    ensures answer { result ≡ answer_of s.old 0 (Kind.LookCounter disk other) }
 {
     let count = s.disks.at(disk as usize).own.at_or(other as usize, ZERO);
     s.editor
@@ -214,18 +225,13 @@ fn counts_of(alloc: Global, looked: &Items<Option<Count>>) -> Result<Items<Count
     Ok(counts)
 }
 
-/// The own counters go into the shared count and the bias off it, by one addition. The old word is answered.
-pub fn fold(
-    alloc: Global,
-    s: &mut State,
-    seat: u32,
-    disk: u32,
-    delta: u64,
-) -> Result<Answer, AllocError>
+/// The own counters go into the shared count and the bias off it, by one addition. The old word is
+/// answered.
+pub fn fold(alloc: Global, s: &mut State, disk: u32, delta: u64) -> Result<Answer, AllocError>
     requires disk { disk < length s.old.disks }
     requires drain { disk < length s.old.editor.drains }
-    ensures done { OnOk result (s.new ≡ next_core s.old seat (Kind.Fold disk delta)) }
-    ensures answer { IfOk result (λ a. a ≡ answer_of s.old seat (Kind.Fold disk delta)) }
+    ensures done { OnOk result (s.new ≡ next_core s.old 0 (Kind.Fold disk delta)) }
+    ensures answer { IfOk result (λ a. a ≡ answer_of s.old 0 (Kind.Fold disk delta)) }
     ensures memory { OnErr result (s.new ≡ s.old) }
 {
     let bases = counts_of(alloc, &s.editor.drains.at(disk as usize).looked)?;
@@ -239,11 +245,11 @@ pub fn fold(
 }
 
 /// The shared count of a folded reference is looked at. Where it is 0, the reference is drained.
-pub fn look_zero(s: &mut State, seat: u32, disk: u32) -> Answer
+pub fn look_zero(s: &mut State, disk: u32) -> Answer
     requires disk { disk < length s.old.disks }
     requires drain { disk < length s.old.editor.drains }
-    ensures done { s.new ≡ next_core s.old seat (Kind.LookZero disk) }
-    ensures answer { result ≡ answer_of s.old seat (Kind.LookZero disk) }
+    ensures done { s.new ≡ next_core s.old 0 (Kind.LookZero disk) }
+    ensures answer { result ≡ answer_of s.old 0 (Kind.LookZero disk) }
 {
     let found = s.disks.at(disk as usize).shared;
     if found == 0 {
@@ -289,11 +295,11 @@ pub fn place_done(
 }
 
 /// The bias is back in the shared count.
-pub fn live_shared(s: &mut State, seat: u32, disk: u32) -> Answer
+pub fn live_shared(s: &mut State, disk: u32) -> Answer
     requires disk { disk < length s.old.disks }
     requires drain { disk < length s.old.editor.drains }
-    ensures done { s.new ≡ next_core s.old seat (Kind.LiveShared disk) }
-    ensures answer { result ≡ answer_of s.old seat (Kind.LiveShared disk) }
+    ensures done { s.new ≡ next_core s.old 0 (Kind.LiveShared disk) }
+    ensures answer { result ≡ answer_of s.old 0 (Kind.LiveShared disk) }
 {
     s.disks.at_mut(disk as usize).shared = BIAS;
     s.editor.drains.at_mut(disk as usize).phase = Phase::Armed;
@@ -301,11 +307,11 @@ pub fn live_shared(s: &mut State, seat: u32, disk: u32) -> Answer
 }
 
 /// The mode is live again.
-pub fn live_mode(s: &mut State, seat: u32, disk: u32) -> Answer
+pub fn live_mode(s: &mut State, disk: u32) -> Answer
     requires disk { disk < length s.old.disks }
     requires drain { disk < length s.old.editor.drains }
-    ensures done { s.new ≡ next_core s.old seat (Kind.LiveMode disk) }
-    ensures answer { result ≡ answer_of s.old seat (Kind.LiveMode disk) }
+    ensures done { s.new ≡ next_core s.old 0 (Kind.LiveMode disk) }
+    ensures answer { result ≡ answer_of s.old 0 (Kind.LiveMode disk) }
 {
     s.disks.at_mut(disk as usize).mode = LIVE;
     s.editor.drains.at_mut(disk as usize).phase = Phase::Live;

@@ -101,17 +101,10 @@ pub fn leave_section(alloc: Global, s: &mut State, seat: u32) -> Result<Answer, 
 }
 
 /// A word of the spare side is set.
-pub fn store_row(
-    alloc: Global,
-    s: &mut State,
-    seat: u32,
-    word: u32,
-    value: u64,
-) -> Result<Answer, AllocError>
-    requires there { seat < length s.old.views }
+pub fn store_row(alloc: Global, s: &mut State, word: u32, value: u64) -> Result<Answer, AllocError>
     requires two { length s.old.sides ≡ 2 }
-    ensures done { OnOk result (s.new ≡ next_core s.old seat (Kind.StoreRow word value)) }
-    ensures answer { IfOk result (λ a. a ≡ answer_of s.old seat (Kind.StoreRow word value)) }
+    ensures done { OnOk result (s.new ≡ next_core s.old 0 (Kind.StoreRow word value)) }
+    ensures answer { IfOk result (λ a. a ≡ answer_of s.old 0 (Kind.StoreRow word value)) }
     ensures memory { OnErr result (s.new ≡ s.old) }
 {
     s.editor.pending.push_front((word, value))?;
@@ -199,10 +192,10 @@ fn look_drains(drains: &mut Items<Drain>, other: u32, word: u64)
 }
 
 /// A seat's section word is looked at, for every grace period that is under way.
-pub fn look_section(s: &mut State, seat: u32, other: u32) -> Answer
+pub fn look_section(s: &mut State, other: u32) -> Answer
     requires there { other < length s.old.views }
-    ensures done { s.new ≡ next_core s.old seat (Kind.LookSection other) }
-    ensures answer { result ≡ answer_of s.old seat (Kind.LookSection other) }
+    ensures done { s.new ≡ next_core s.old 0 (Kind.LookSection other) }
+    ensures answer { result ≡ answer_of s.old 0 (Kind.LookSection other) }
 {
     let word = s.views.at(other as usize).word;
     look_marks(&mut s.editor.marks, other, word);

@@ -4,8 +4,8 @@ use ref_rule::{Answer, Core, Kind, allowed, step};
 use std::alloc::Global;
 use std::process::Abort;
 
-/// A core of three seats with 200 places each, two disks of eight slots each, and sides of three words. It is opened
-/// again where memory is refused once.
+/// A core of three seats with 200 places each, two disks of eight slots each, and sides of three
+/// words. It is opened again where memory is refused once.
 pub fn opened(rt: &impl Abort, alloc: Global) -> Core {
     let quotas = [200, 200, 200];
     match Core::opened(alloc, &quotas, 2, 3) {
@@ -20,7 +20,8 @@ fn taken_again(rt: &impl Abort, alloc: Global, core: &mut Core, seat: u32, kind:
     step(alloc, core, seat, kind).expect(rt, "memory")
 }
 
-/// The answer of the step, or none where it isn't allowed. Where memory is refused once, the step is taken again.
+/// The answer of the step, or none where it isn't allowed. Where memory is refused once, the step
+/// is taken again.
 pub fn tried(
     rt: &impl Abort,
     alloc: Global,

@@ -1,5 +1,6 @@
-//! Tests alone: runs of the executable concurrency core. Tables of steps with the answer of each, and 10,000 random
-//! allowed steps. After each step the core is looked at by a plain check of soundness, which shares no code with the core.
+//! Tests alone: runs of the executable concurrency core. Tables of steps with the answer of each,
+//! and 10,000 random allowed steps. After each step the core is looked at by a plain check of
+//! soundness, which shares no code with the core.
 #![tactic(auto)]
 
 #[cfg(test)]

@@ -34,7 +34,8 @@ fn roll(dice: &mut Pcg32, sides: u32) -> u32 {
     if sides == 0 { 0 } else { word % sides }
 }
 
-// A call that takes a place in a section: mostly a submit, else a bare call, or one that is placed for another seat.
+// A call that takes a place in a section: mostly a submit, else a bare call, or one that is placed
+// for another seat.
 fn drawn_call(dice: &mut Pcg32, caller: u32, number: u32) -> Tag {
     let kind = match roll(dice, 6) {
         0 => BARE,

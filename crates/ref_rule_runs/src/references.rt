@@ -207,7 +207,8 @@ fn shown_to(s: &State, disk: u32) -> bool {
     true
 }
 
-/// What the last serial shows is live; what a section shows is live, or killed with that section awaited.
+/// What the last serial shows is live; what a section shows is live, or killed with that section
+/// awaited.
 pub fn shown_is_live(s: &State) -> bool {
     let mut disk: u32 = 0;
     for drain in s.editor.drains.as_slice() {

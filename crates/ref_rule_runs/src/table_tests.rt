@@ -105,8 +105,8 @@ const FOLD_0: Kind = Kind::Fold {
     delta: BIAS,
 };
 
-// A submit of seat 1 gets a hold; seat 2 executes it and puts the hold while the reference is live. Then the disk is
-// hidden, killed, folded and drained, and lives again.
+// A submit of seat 1 gets a hold; seat 2 executes it and puts the hold while the reference is live.
+// Then the disk is hidden, killed, folded and drained, and lives again.
 const PUT_ELSEWHERE: &[Row] = &[
     (0, SHOW, DONE),
     (0, PUBLISH, Some(Answer::Pair(0, 1))),
@@ -303,7 +303,8 @@ const FOLD_WAITS: &[Row] = &[
     (0, LOOK_ZERO, ZERO),
 ];
 
-// Seat 1 is in a section with a place while a configuration is published. The next isn't before seat 1 has left.
+// Seat 1 is in a section with a place while a configuration is published. The next isn't before
+// seat 1 has left.
 const ONE_PUBLISH: &[Row] = &[
     (0, Kind::StoreRow { word: 2, value: 7 }, DONE),
     (0, PUBLISH, Some(Answer::Pair(0, 1))),

@@ -20,7 +20,8 @@ use Rattle.ref_state.proofs.TurnSteps as passd
 use Rattle.ref_state.proofs.Opened.{opens}
 use Rattle.ref_state.proofs.Lists.{at_or}
 
-pub kept_by_all : (c : Core) (j : ℕ) (v : View) → At c.views j v → v.role ≡ Seat → Whole c → (k : Kind) → MayStep c j v k → Whole (after_step c j v k)
+pub kept_by_all : (c : Core) (j : ℕ) (v : View) → At c.views j v → v.role ≡ Seat → Whole c
+    → (k : Kind) → MayStep c j v k → Whole (after_step c j v k)
 kept_by_all c j v at seat s EnterSection ok = passk.enters c j v at seat s ok
 kept_by_all c j v at seat s (DrawPlace t) ok = passk.draws c j v at seat s t ok
 kept_by_all c j v at seat s (LoadRow w) ok = s
@@ -49,7 +50,9 @@ kept_by_all c j v at seat s (SlotIn n) ok = passd.comes_in c j v at seat s n ok
 kept_by_all c j v at seat s (GiveTurn n) ok = passd.gives c j v at seat s n ok
 
 pub step_kept : (c d : Core) (j : ℕ) (k : Kind) → Step c j k d → Whole c → Whole d
-step_kept c d j k t s = let a = t.allowed in subst Whole (sym t.after) (kept_by_all c j (view c.views j) (at_or c.views j no_view a.there) a.seat s k a.may)
+step_kept c d j k t s = let a = t.allowed in
+    subst Whole (sym t.after) (kept_by_all c j (view c.views j) (at_or c.views j no_view a.there)
+    a.seat s k a.may)
 
 pub run_kept : (steps : List (ℕ × Kind)) (c d : Core) → Whole c → Run c steps d → Whole d
 run_kept [] c d s r = subst Whole (sym r) s
@@ -59,4 +62,6 @@ pub sound_step : (c d : Core) (j : ℕ) (k : Kind) → Step c j k d → IsSound 
 sound_step c d j k t s = parts_of d (step_kept c d j k t (whole_of c s))
 
 pub always : AlwaysSound
-always quotas disks slots words steps c small r = parts_of c (run_kept steps (opened_core quotas disks slots words) c (opens quotas disks slots words small) r)
+always quotas disks slots words steps c small r =
+    parts_of c (run_kept steps (opened_core quotas disks slots words) c
+    (opens quotas disks slots words small) r)

@@ -30,8 +30,10 @@ word_is e = grind arith
 
 -- no more sections got a hold than entries there are, and of these fewer than the quotas
 few_puts : (c : Core) → IsSound c → puts_of c.views < 4294967296
-few_puts c sound = let a = sound.places.all in let b = sound.places.left in let s = sound.places.small in
-    let d = total_le (λ (u : View). total has_got (kept u)) (λ (u : View). total any_entry (kept u)) (λ u. total_le has_got any_entry got_one (kept u)) c.views in omega arith
+few_puts c sound = let a = sound.places.all in let b = sound.places.left in
+    let s = sound.places.small in
+    let d = total_le (λ (u : View). total has_got (kept u)) (λ (u : View). total any_entry (kept u))
+    (λ u. total_le has_got any_entry got_one (kept u)) c.views in omega arith
   where
     at_most : (b : Bool) → one_if b ≤ 1
     at_most true = omega arith
@@ -41,22 +43,29 @@ few_puts c sound = let a = sound.places.all in let b = sound.places.left in let 
     got_one e = at_most e.got
 
 pub put_that_finds_one : PutThatFindsOne
-put_that_finds_one c j d sound a found = let v : View = view c.views j in let ok = a.may in let one : (disk c d).shared ≡ 1 = word_is found in
-    let fits : LoadedModeFits c.editor j v (Killed d) = subst (LoadedModeFits c.editor j v) ok.0 (sound.modes.loaded j v (at_or c.views j no_view a.there)) in
+put_that_finds_one c j d sound a found = let v : View = view c.views j in let ok = a.may in
+    let one : (disk c d).shared ≡ 1 = word_is found in
+    let fits : LoadedModeFits c.editor j v (Killed d) =
+    subst (LoadedModeFits c.editor j v) ok.0 (sound.modes.loaded j v
+    (at_or c.views j no_view a.there)) in
     let counts = sound.split_counts.counts d ok.2 in let few = few_puts c sound in
     ⊎_elim
-    (λ (t : (drain c.editor d).phase ≡ phase.Killed). absurd (let b = (counts.killed t).1 in omega arith))
+    (λ (t : (drain c.editor d).phase ≡ phase.Killed). absurd (let b = (counts.killed t).1 in
+    omega arith))
     (λ (t : (drain c.editor d).phase ≡ phase.Folded). last_put_ends c j d sound a t left_none)
     fits.2
   where
     left_none : (disk (next_core c j (AddShared d false)) d).shared ≡ 0
-    left_none = ap (λ (k : Disk). k.shared) (get_or-set_same c.disks d _ no_disk a.may.2) ∙ ap (word_after false) (word_is found)
+    left_none = ap (λ (k : Disk). k.shared) (get_or-set_same c.disks d _ no_disk a.may.2)
+        ∙ ap (word_after false) (word_is found)
 
-words_up : (u d : ℕ) → ((u + (18446744073709551616 - d % 18446744073709551616)) % 18446744073709551616 + 1) % 18446744073709551616
+words_up : (u d : ℕ) → ((u + (18446744073709551616 - d % 18446744073709551616)) %
+    18446744073709551616 + 1) % 18446744073709551616
     ≡ (u + 1 + (18446744073709551616 - d % 18446744073709551616)) % 18446744073709551616
 words_up u d = omega arith
 
-words_down : (u d : ℕ) → ((u + (18446744073709551616 - d % 18446744073709551616)) % 18446744073709551616 + 18446744073709551615) % 18446744073709551616
+words_down : (u d : ℕ) → ((u + (18446744073709551616 - d % 18446744073709551616)) %
+    18446744073709551616 + 18446744073709551615) % 18446744073709551616
     ≡ (u + (18446744073709551616 - (d + 1) % 18446744073709551616)) % 18446744073709551616
 words_down u d = omega arith
 
@@ -74,25 +83,34 @@ looked_tells Unseen w = by_case (is_odd w) refl
     by_case false e = inl refl
 looked_tells (Noted x) w = by_case (is_odd w) (w == x) refl (eqb-true w x)
   where
-    by_case : (z y : Bool) → is_odd w ≡ z → (y ≡ true → w ≡ x) → IsPassedOrNoted w (cond z (cond y (Noted x) Passed) Passed)
+    by_case : (z y : Bool) → is_odd w ≡ z → (y ≡ true → w ≡ x)
+        → IsPassedOrNoted w (cond z (cond y (Noted x) Passed) Passed)
     by_case true true e same = inr (ap (λ i. Noted i) (sym (same refl)), e)
     by_case true false e same = inl refl
     by_case false y e same = inl refl
 looked_tells Passed w = inl refl
 
-mark_tells : (o w : ℕ) (ms : List Mark) → o < length ms → IsPassedOrNoted w (mark (at_mark o w ms) o)
-mark_tells o w ms near = subst (IsPassedOrNoted w) (sym (get_or-set_same ms o (looked (mark ms o) w) Unseen near)) (looked_tells (mark ms o) w)
+mark_tells : (o w : ℕ) (ms : List Mark) → o < length ms
+    → IsPassedOrNoted w (mark (at_mark o w ms) o)
+mark_tells o w ms near = subst (IsPassedOrNoted w) (sym (get_or-set_same ms o (looked (mark ms o) w)
+    Unseen near)) (looked_tells (mark ms o) w)
 
 pub look_tells : LookTells
-look_tells c j o w sound a found = let same : (view c.views o).word ≡ w = word_is found in let ok = a.may in let many = sound.sections.marked in
+look_tells c j o w sound a found = let same : (view c.views o).word ≡ w = word_is found in
+    let ok = a.may in let many = sound.sections.marked in
     subst (λ (x : ℕ). IsPassedOrNoted w (mark (at_mark o x c.editor.marks) o)
-    × ((d : ℕ) → (drain c.editor d).phase ≡ phase.Killed → IsPassedOrNoted w (mark (drain (looked_at o x c.editor) d).marks o))) (sym same)
+    × ((d : ℕ) → (drain c.editor d).phase ≡ phase.Killed
+    → IsPassedOrNoted w (mark (drain (looked_at o x c.editor) d).marks o))) (sym same)
     (mark_tells o w c.editor.marks (omega arith), λ d killed. at_disk d killed)
   where
-    at_disk : (d : ℕ) → (drain c.editor d).phase ≡ phase.Killed → IsPassedOrNoted w (mark (drain (looked_at o w c.editor) d).marks o)
-    at_disk d killed = let b : Drain = drain c.editor d in let long = (sound.modes.wide d killed).1 in let near = a.may.1 in
-        let kept : at_drain o w b ≡ record b { marks = at_mark o w b.marks } = rw (ap is_killed killed) refl in
-        subst (λ (z : Drain). IsPassedOrNoted w (mark z.marks o)) (sym (drain_looked o w c.editor.drains d ∙ kept)) (mark_tells o w b.marks (omega arith))
+    at_disk : (d : ℕ) → (drain c.editor d).phase ≡ phase.Killed
+        → IsPassedOrNoted w (mark (drain (looked_at o w c.editor) d).marks o)
+    at_disk d killed = let b : Drain = drain c.editor d in let long =
+        (sound.modes.wide d killed).1 in let near = a.may.1 in
+        let kept : at_drain o w b ≡ record b { marks = at_mark o w b.marks } =
+        rw (ap is_killed killed) refl in
+        subst (λ (z : Drain). IsPassedOrNoted w (mark z.marks o))
+        (sym (drain_looked o w c.editor.drains d ∙ kept)) (mark_tells o w b.marks (omega arith))
 
 -- ## What a place tells
 
@@ -101,11 +119,13 @@ set_at : (l : List View) (j : ℕ) (w : View) → j < length l → view (set l j
 set_at l j w near = get_or-set_same l j w no_view near
 
 module _ (c : Core) (j : ℕ) (sound : IsSound c) where
-  new_at : (k : Kind) (w : View) → j < length c.views → (next_core c j k).views ≡ set c.views j w → w.seen ≡ c.given + 1 → place_in (answer_of c j k) ≡ c.given → IsNewPlace c j k
+  new_at : (k : Kind) (w : View) → j < length c.views → (next_core c j k).views ≡ set c.views j w
+      → w.seen ≡ c.given + 1 → place_in (answer_of c j k) ≡ c.given → IsNewPlace c j k
   new_at k w there views seen told = record {
     told = told;
     unseen = sound.places.seen j (view c.views j) (at_or c.views j no_view there);
-    seen = ap (λ (l : List View). (view l j).seen) views ∙ (ap (λ (v : View). v.seen) (set_at c.views j w there) ∙ seen);
+    seen = ap (λ (l : List View). (view l j).seen) views
+        ∙ (ap (λ (v : View). v.seen) (set_at c.views j w there) ∙ seen);
   }
 
   new_place : (k : Kind) → j < length c.views → takes_place k ≡ true → IsNewPlace c j k
@@ -139,11 +159,13 @@ places_are_new c j k sound a takes = new_place c j sound k a.there takes
 
 pub join_keeps_the_larger : JoinKeepsTheLarger
 join_keeps_the_larger c j p a = let ok = a.may in
-    ap (λ (v : View). v.seen) (get_or-set_other (set c.views j _) p j _ no_view (λ e. ok.0 (sym e)) ∙ set_at c.views j _ a.there)
+    ap (λ (v : View). v.seen) (get_or-set_other (set c.views j _) p j _ no_view (λ e. ok.0 (sym e))
+    ∙ set_at c.views j _ a.there)
 
 -- ## What a step leaves alone
 
-before_end : {A : Type 0} (l : List A) (x : A) (i : ℕ) (a : A) → get_elem? l i ≡ some a → get_elem? (l ++ x ∷ []) i ≡ some a
+before_end : {A : Type 0} (l : List A) (x : A) (i : ℕ) (a : A) → get_elem? l i ≡ some a
+    → get_elem? (l ++ x ∷ []) i ≡ some a
 before_end [] x i a e = absurd (some-ne-none a (sym e))
 before_end (y ∷ ys) x zero a e = e
 before_end (y ∷ ys) x (suc i) a e = before_end ys x i a e
@@ -170,7 +192,16 @@ module _ (c : Core) (j : ℕ) (i : ℕ) (v : View) (other : i ≢ j) (at : At c.
   stays (Fold d x) not_joined = at
   stays (LookZero d) not_joined = by_case ((disk c d).shared == 0)
     where
-      by_case : (z : Bool) → At (cond z (record c { editor = record c.editor { drains = set c.editor.drains d (record (drain c.editor d) { phase = phase.Drained; done_placed = false }) } }) c).views i v
+      by_case : (z : Bool) → At (cond z (record c {
+        editor =
+            record c.editor {
+              drains = set c.editor.drains d (record (drain c.editor d) {
+                phase =
+                    phase.Drained;
+                done_placed = false;
+              });
+            };
+      }) c).views i v
       by_case true = at
       by_case false = at
   stays (PlaceDone d t) not_joined = beside _
@@ -178,7 +209,15 @@ module _ (c : Core) (j : ℕ) (i : ℕ) (v : View) (other : i ≢ j) (at : At c.
   stays (LiveMode d) not_joined = at
   stays (TakeTurn n) not_joined = by_case (get_or c.turns n 0 == 0)
     where
-      by_case : (z : Bool) → At (cond z (record (record c { turns = set c.turns n (j + 1) }) { views = set c.views j (record (view c.views j) { turns = record { slot = n; out = false } ∷ (view c.views j).turns }) }) c).views i v
+      by_case : (z : Bool) → At (cond z (record (record c {
+        turns =
+            set c.turns n (j + 1);
+      }) {
+        views = set c.views j (record (view c.views j) {
+          turns =
+              record { slot = n; out = false } ∷ (view c.views j).turns;
+        });
+      }) c).views i v
       by_case true = beside _
       by_case false = at
   stays (SlotOut n) not_joined = beside _
@@ -192,21 +231,32 @@ others_stay c j k i v other not_joined at = stays c j i v other at k not_joined
 -- ## Who has every entry
 
 pub entries_and_places_left : EntriesAndPlacesLeft
-entries_and_places_left c sound = let a = sound.places.all in let b = sound.places.left in omega arith
+entries_and_places_left c sound = let a = sound.places.all in let b = sound.places.left in
+    omega arith
 
 pub gathered_has_all : GatheredHasAll
 gathered_has_all c j v sound at all =
-    let a : total (λ u. total any_entry (kept u)) (set c.views j no_view) + total any_entry (kept v) ≡ entries any_entry c.views + 0 = total_set (λ (u : View). total any_entry (kept u)) c.views j v no_view at in
-    let b : total (λ u. u.left) (set c.views j no_view) + v.left ≡ total (λ u. u.left) c.views + 0 = total_set (λ (u : View). u.left) c.views j v no_view at in
+    let a : total (λ u. total any_entry (kept u)) (set c.views j no_view) + total any_entry (kept v)
+    ≡ entries any_entry c.views + 0 = total_set (λ (u : View). total any_entry (kept u)) c.views
+    j v no_view at in
+    let b : total (λ u. u.left) (set c.views j no_view) + v.left ≡ total (λ u. u.left) c.views + 0 =
+    total_set (λ (u : View). u.left) c.views j v no_view at in
     let many = sound.places.all in let left = sound.places.left in
-    let others : entries any_entry (set c.views j no_view) ≡ 0 = omega arith in (omega arith, λ k. here k others)
+    let others : entries any_entry (set c.views j no_view) ≡ 0 = omega arith in
+    (omega arith, λ k. here k others)
   where
     at_most : (b : Bool) → one_if b ≤ 1
     at_most true = omega arith
     at_most false = omega arith
 
-    here : (k : ℕ) → entries any_entry (set c.views j no_view) ≡ 0 → total (has_place k) (kept v) ≡ once_below k c.given
-    here k others = let few : entries (has_place k) (set c.views j no_view) ≤ entries any_entry (set c.views j no_view)
-        = total_le (λ (u : View). total (has_place k) (kept u)) (λ (u : View). total any_entry (kept u)) (λ u. total_le (has_place k) any_entry (λ e. at_most (e.place == k)) (kept u)) (set c.views j no_view) in
-        let mine : entries (has_place k) (set c.views j no_view) + total (has_place k) (kept v) ≡ entries (has_place k) c.views + 0 = total_set (λ (u : View). total (has_place k) (kept u)) c.views j v no_view at in
+    here : (k : ℕ) → entries any_entry (set c.views j no_view) ≡ 0
+        → total (has_place k) (kept v) ≡ once_below k c.given
+    here k others = let few : entries (has_place k) (set c.views j no_view) ≤ entries any_entry
+        (set c.views j no_view)
+        = total_le (λ (u : View). total (has_place k) (kept u))
+        (λ (u : View). total any_entry (kept u)) (λ u. total_le (has_place k) any_entry
+        (λ e. at_most (e.place == k)) (kept u)) (set c.views j no_view) in
+        let mine : entries (has_place k) (set c.views j no_view) + total (has_place k) (kept v)
+        ≡ entries (has_place k) c.views + 0 = total_set (λ (u : View). total (has_place k)
+        (kept u)) c.views j v no_view at in
         let once = sound.places.once k in omega arith

@@ -21,18 +21,24 @@ is_name t caller number = (caller == t.caller) && (number == t.number)
 
 -- to each hold there is one entry at its place, with its call, whose section got it
 abbrev pub HoldsHaveEntries : Type 0
-HoldsHaveEntries = (c : Core) → IsSound c → Each c.views (λ _ v. Every (λ h. entries (got_at h.place (is_call h.call)) c.views ≡ 1) v.holds)
+HoldsHaveEntries = (c : Core) → IsSound c
+    → Each c.views (λ _ v. Every (λ h. entries (got_at h.place (is_call h.call)) c.views
+    ≡ 1) v.holds)
 
--- to each Execute there is one submit at the place that it names, with the Execute's caller and number, whose section got a hold
+-- to each Execute there is one submit at the place that it names, with the Execute's caller and
+-- number, whose section got a hold
 abbrev pub ExecutesHaveSubmits : Type 0
 ExecutesHaveSubmits = (c : Core) → IsSound c
-    → Each c.views (λ _ v. Every (λ e. (k : ℕ) → executes e.by k ≡ true → entries (submit_got k (is_name e.call)) c.views ≡ 1) (kept v))
+    → Each c.views (λ _ v. Every (λ e. (k : ℕ) → executes e.by k ≡ true
+    → entries (submit_got k (is_name e.call)) c.views ≡ 1) (kept v))
 
 -- a part has the number of the seat that it was split from, and has seen what that seat has
 abbrev pub PartOfItsSeat : Type 0
 PartOfItsSeat = (c : Core) (j : ℕ) (t : Take) → IsSound c → IsAllowed c j (Split t)
-    → let u : View = view (next_core c j (Split t)).views (length c.views) in (u.role ≡ Part) × (u.number ≡ j) × (u.seen ≡ (view c.views j).seen)
+    → let u : View = view (next_core c j (Split t)).views (length c.views) in (u.role ≡ Part)
+    × (u.number ≡ j) × (u.seen ≡ (view c.views j).seen)
 
 -- no step changes a number
 abbrev pub NumbersStay : Type 0
-NumbersStay = (c : Core) (j : ℕ) (k : Kind) (i : ℕ) → i < length c.views → (view (next_core c j k).views i).number ≡ (view c.views i).number
+NumbersStay = (c : Core) (j : ℕ) (k : Kind) (i : ℕ) → i < length c.views
+    → (view (next_core c j k).views i).number ≡ (view c.views i).number

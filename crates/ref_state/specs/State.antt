@@ -1,5 +1,6 @@
--- What is read of a core. Its data are those of src/state.rt: contracts see a `Core` as its `State`, and it is called `Core` here.
--- Sums over all seats and parts are `total`s, so "as many", "each once" and "none" are equations between numbers.
+-- What is read of a core. Its data are those of src/state.rt: contracts see a `Core` as its
+-- `State`, and it is called `Core` here. Sums over all seats and parts are `total`s, so "as many",
+-- "each once" and "none" are equations between numbers.
 use Rattle.std.specs.Prelude.{◌≡◌, ◌≢◌, ◌⊎◌, ℕ, ◌+◌, ◌-◌, ◌%◌, ◌<◌, Bool, true, false, not, ◌&&◌, ◌==◌, nat_le, if◌then◌else◌, List, [], ◌∷◌, ◌++◌, slice_index, slice_index_or, slice_set, Option, Some, None}
 use mathlib.Core.Option.{some}
 use lib.ListN.{get_elem?}
@@ -41,7 +42,8 @@ word_end = 18446744073709551616
 -- ## Sums over all seats and parts
 
 module _ {A : Type 0} where
-  -- the sum of f over a list, item by item from the first. It is std's `sum_by`, in the form that computes at a first item
+  -- the sum of f over a list, item by item from the first. It is std's `sum_by`, in the form that
+  -- computes at a first item
   abbrev pub total : (A → ℕ) → List A → ℕ
   total f [] = 0
   total f (x ∷ xs) = f x + total f xs
@@ -52,7 +54,8 @@ own_entry Out = []
 own_entry In = []
 own_entry (Placed e) = e ∷ []
 
--- the entries that a seat keeps: that of its open section, which isn't finished, and the finished ones
+-- the entries that a seat keeps: that of its open section, which isn't finished, and the finished
+-- ones
 abbrev pub kept : View → List Entry
 kept v = own_entry v.section ++ v.entries
 
@@ -131,11 +134,13 @@ got_by k p h = one_if ((h.place == k) && p h.call)
 
 -- got by the submit at this place, with a name that p takes, its Execute not placed
 abbrev pub waiting_hold : ℕ → (ℕ → ℕ → Bool) → Hold → ℕ
-waiting_hold k p h = one_if (((h.place == k) && is_named p h.call) && (not (is_bare h.call) && not h.executed))
+waiting_hold k p h = one_if (((h.place == k) && is_named p h.call)
+    && (not (is_bare h.call) && not h.executed))
 
 -- got by the submit at this place, with a name that p takes, its Execute placed
 abbrev pub done_hold : ℕ → (ℕ → ℕ → Bool) → Hold → ℕ
-done_hold k p h = one_if (((h.place == k) && is_named p h.call) && (not (is_bare h.call) && h.executed))
+done_hold k p h = one_if (((h.place == k) && is_named p h.call)
+    && (not (is_bare h.call) && h.executed))
 
 -- got by the bare call at this place, with a name that p takes
 abbrev pub bare_hold : ℕ → (ℕ → ℕ → Bool) → Hold → ℕ
@@ -201,15 +206,17 @@ mark ms j = slice_index_or ms j Unseen
 abbrev pub AllPassed : ℕ → List Mark → Type 0
 AllPassed n ms = (j : ℕ) → j < n → mark ms j ≡ Passed
 
--- the grace period still waits for a seat whose section word is w: it isn't marked as passed, and where its word was noted, w is the
--- noted one. This is said of each section that began before the grace period
+-- the grace period still waits for a seat whose section word is w: it isn't marked as passed, and
+-- where its word was noted, w is the noted one. This is said of each section that began before the
+-- grace period
 abbrev pub IsAwaited : Mark → ℕ → Type 0
 IsAwaited Unseen w = Unit {0}
 IsAwaited (Noted x) w = w ≡ x
 IsAwaited Passed w = ⊥
 
--- the mark after a look that found w. An even word, or another than the noted one, tells that the seat left the section that the grace
--- period waits for; an odd word at the first look may be of that section, and is noted
+-- the mark after a look that found w. An even word, or another than the noted one, tells that the
+-- seat left the section that the grace period waits for; an odd word at the first look may be of
+-- that section, and is noted
 abbrev pub looked : Mark → ℕ → Mark
 looked Unseen w = if is_odd w then Noted w else Passed
 looked (Noted x) w = if is_odd w then (if w == x then Noted x else Passed) else Passed
@@ -239,13 +246,16 @@ downs c = c.downs
 abbrev pub no_count : Count
 no_count = record { ups = 0; downs = 0 }
 
--- the word of a counter: the whole number modulo 2^64, so that one that was lowered below 0 is above 2^63
+-- the word of a counter: the whole number modulo 2^64, so that one that was lowered below 0 is
+-- above 2^63
 abbrev pub word_of : Count → ℕ
 word_of c = (c.ups + (word_end - c.downs % word_end)) % word_end
 
--- the disk is live, or it is killed and its grace period still waits for the seat j, whose section word is w
+-- the disk is live, or it is killed and its grace period still waits for the seat j, whose section
+-- word is w
 abbrev pub IsLiveOrAwaited : Drain → ℕ → ℕ → Type 0
-IsLiveOrAwaited b j w = (b.phase ≡ phase.Live) ⊎ ((b.phase ≡ phase.Killed) × IsAwaited (mark b.marks j) w)
+IsLiveOrAwaited b j w = (b.phase ≡ phase.Live) ⊎ ((b.phase ≡ phase.Killed)
+    × IsAwaited (mark b.marks j) w)
 
 abbrev pub is_killed : Phase → Bool
 is_killed phase.Killed = true
@@ -255,7 +265,18 @@ is_killed _ = false
 
 -- what is read of one that isn't there
 abbrev pub no_view : View
-no_view = record { role = Spent; number = 0; word = 0; section = Out; loaded = NotLoaded; holds = []; turns = []; left = 0; seen = 0; entries = [] }
+no_view = record {
+  role = Spent;
+  number = 0;
+  word = 0;
+  section = Out;
+  loaded = NotLoaded;
+  holds = [];
+  turns = [];
+  left = 0;
+  seen = 0;
+  entries = [];
+}
 
 abbrev pub view : List View → ℕ → View
 view views j = slice_index_or views j no_view

@@ -47,7 +47,8 @@ pub enum Take {
     Entry(u32),
 }
 
-/// One step on one shared word or slot, or on none. `disk`, `word`, `slot`, `other` and `part` count from 0.
+/// One step on one shared word or slot, or on none. `disk`, `word`, `slot`, `other` and `part`
+/// count from 0.
 #[derive(Clone, Copy, Debug)]
 pub enum Kind {
     /// Store the own section word, made odd: `rcu_read_lock`.
@@ -60,7 +61,8 @@ pub enum Kind {
     LeaveSection,
     /// The editor stores a word of the spare side.
     StoreRow { word: u32, value: u64 },
-    /// The editor fetch-adds 2^32 + 1 on the clock: the spare side is the last serial's from now on.
+    /// The editor fetch-adds 2^32 + 1 on the clock: the spare side is the last serial's from now
+    /// on.
     Publish { call: Tag },
     /// The editor loads a seat's section word, for every grace period that is under way.
     LookSection { other: u32 },

@@ -1,4 +1,5 @@
-//! What holds of every step and of every run. Each law is the contract of a function that does nothing.
+//! What holds of every step and of every run. Each law is the contract of a function that does
+//! nothing.
 ghost use Rattle.std.specs.Prelude.{◌≡◌, ℕ, List, sum_by};
 ghost use Rattle.ref_state.specs.State.{total};
 ghost use Rattle.ref_state.specs.Runs.{PlacesKept, SidesKept, SectionsKept, SplitCountsKept, FoldedCountsKept, ModesKept, ShownKept, TurnsKept, HoldsKept, SoundKept, AlwaysSound, ReadSideStays, RowsOfSerial, LastSerialAlone, ConfsStay, WordsAreCounters, ShownCounts, GetsMeetNoFold, FoldedIsHolds, LastPutEnds, DoneIsOver, OverStays};
@@ -6,17 +7,20 @@ ghost use Rattle.ref_state.specs.Lives.{DonesFollowLives, DoneOnceInLife, LifeAf
 ghost use Rattle.ref_state.specs.OneStep.{PutThatFindsOne, WordsFollowCounts, OthersStay, EntriesAndPlacesLeft, GatheredHasAll, LookTells, PlacesAreNew, JoinKeepsTheLarger};
 ghost use Rattle.ref_state.specs.Owners.{HoldsHaveEntries, ExecutesHaveSubmits, PartOfItsSeat, NumbersStay};
 
-/// Every allowed step from a sound core leaves each place with one entry, and each entry with the serial of its place.
+/// Every allowed step from a sound core leaves each place with one entry, and each entry with the
+/// serial of its place.
 pub fn places_kept()
     ensures { PlacesKept }
 {}
 
-/// Every allowed step leaves the side of the last serial with its words, and the other with those before and what was set since.
+/// Every allowed step leaves the side of the last serial with its words, and the other with those
+/// before and what was set since.
 pub fn sides_kept()
     ensures { SidesKept }
 {}
 
-/// Every allowed step leaves the grace period waiting for each section that reads the serial before.
+/// Every allowed step leaves the grace period waiting for each section that reads the serial
+/// before.
 pub fn sections_kept()
     ensures { SectionsKept }
 {}
@@ -36,7 +40,8 @@ pub fn modes_kept()
     ensures { ModesKept }
 {}
 
-/// Every allowed step leaves each disk that a section shows live, or killed with that section awaited.
+/// Every allowed step leaves each disk that a section shows live, or killed with that section
+/// awaited.
 pub fn shown_kept()
     ensures { ShownKept }
 {}
@@ -56,7 +61,8 @@ pub fn sound_kept()
     ensures { SoundKept }
 {}
 
-/// Whatever seats there are, and whatever allowed steps they take from an opened core, the core is sound after each.
+/// Whatever seats there are, and whatever allowed steps they take from an opened core, the core is
+/// sound after each.
 pub fn always_sound()
     ensures { AlwaysSound }
 {}
@@ -77,7 +83,8 @@ pub fn last_serial_alone()
     ensures { LastSerialAlone }
 {}
 
-/// The word that a seat keeps of its own counter is that counter as a two's complement number, though the counter may be below 0.
+/// The word that a seat keeps of its own counter is that counter as a two's complement number,
+/// though the counter may be below 0.
 pub fn words_are_counters()
     ensures { WordsAreCounters }
 {}
@@ -88,7 +95,8 @@ pub fn gets_meet_no_fold()
     ensures gets { GetsMeetNoFold }
 {}
 
-/// After the fold the shared count is the number of holds, and the put that brings it to 0 put the last one.
+/// After the fold the shared count is the number of holds, and the put that brings it to 0 put the
+/// last one.
 pub fn folded_is_holds()
     ensures count { FoldedIsHolds }
     ensures last { LastPutEnds }
@@ -99,14 +107,15 @@ pub fn done_is_over()
     ensures { DoneIsOver }
 {}
 
-/// Once no hold of a folded reference stands, none is got or put until it is made live again: the last put and the Done come at most
-/// once in a life.
+/// Once no hold of a folded reference stands, none is got or put until it is made live again: the
+/// last put and the Done come at most once in a life.
 pub fn over_stays()
     ensures { OverStays }
 {}
 
-/// A life of a disk's reference has one Done: it is placed at most once before the disk is made live again, and the disk is made live
-/// again only where it was placed. Along a whole run the Dones are as many as the new lives, but for one that is placed in the life that stands.
+/// A life of a disk's reference has one Done: it is placed at most once before the disk is made
+/// live again, and the disk is made live again only where it was placed. Along a whole run the
+/// Dones are as many as the new lives, but for one that is placed in the life that stands.
 pub fn life_has_one_done()
     ensures runs { DonesFollowLives }
     ensures once { DoneOnceInLife }
@@ -128,24 +137,28 @@ pub fn others_stay()
     ensures { OthersStay }
 {}
 
-/// Entries and places left are the quotas. So a seat that has gathered as many keeps the entry of every place that was given.
+/// Entries and places left are the quotas. So a seat that has gathered as many keeps the entry of
+/// every place that was given.
 pub fn gathered_has_all()
     ensures quotas { EntriesAndPlacesLeft }
     ensures every { GatheredHasAll }
 {}
 
-/// After a look at a section word the seat has passed, or is noted with the odd word just found, for every grace period under way.
+/// After a look at a section word the seat has passed, or is noted with the odd word just found,
+/// for every grace period under way.
 pub fn look_tells()
     ensures { LookTells }
 {}
 
-/// A place is none that its seat has seen before, and the seat has seen it afterwards. Who joins another has seen what either had.
+/// A place is none that its seat has seen before, and the seat has seen it afterwards. Who joins
+/// another has seen what either had.
 pub fn places_are_new()
     ensures places { PlacesAreNew }
     ensures joins { JoinKeepsTheLarger }
 {}
 
-/// A hold belongs to one entry by place and call, and an Execute to one submit by place, caller and number.
+/// A hold belongs to one entry by place and call, and an Execute to one submit by place, caller and
+/// number.
 pub fn holds_have_entries()
     ensures holds { HoldsHaveEntries }
     ensures executes { ExecutesHaveSubmits }

@@ -9,7 +9,8 @@ pub const MAX_DISKS: u32 = 64;
 /// The number of extents of a disk, each with a slot of its own.
 pub const EXTENTS: u32 = 8;
 
-/// The bias of a shared count, 2^63, which is in it while the reference is live: `PERCPU_COUNT_BIAS` of the kernel.
+/// The bias of a shared count, 2^63, which is in it while the reference is live:
+/// `PERCPU_COUNT_BIAS` of the kernel.
 pub const BIAS: u64 = 0x8000_0000_0000_0000;
 
 /// The mode word of a live reference.

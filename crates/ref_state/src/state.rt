@@ -1,5 +1,6 @@
-//! The state of the core as plain data: the shared words, what each seat or part of a seat keeps, and what the
-//! editor's seat keeps beside. The types serve as the code's data and as what contracts see.
+//! The state of the core as plain data: the shared words, what each seat or part of a seat keeps,
+//! and what the editor's seat keeps beside. The types serve as the code's data and as what
+//! contracts see.
 use crate::kinds::Tag;
 use lists::items::Items;
 
@@ -21,7 +22,8 @@ pub enum By {
 pub struct Entry {
     /// The place, counted from 0: the low half of the clock at its step.
     pub place: u32,
-    /// The number of published entries up to this place, itself included: the high half of the clock.
+    /// The number of published entries up to this place, itself included: the high half of the
+    /// clock.
     pub serial: u32,
     pub call: Tag,
     pub by: By,
@@ -69,7 +71,8 @@ pub struct Turn {
     pub out: bool,
 }
 
-/// A seat takes steps. A part carries what was split off a seat, and takes none. A spent one was joined into another.
+/// A seat takes steps. A part carries what was split off a seat, and takes none. A spent one was
+/// joined into another.
 #[derive(Clone, Copy)]
 pub enum Role {
     Seat,
@@ -97,7 +100,8 @@ pub struct View {
     pub entries: Items<Entry>,
 }
 
-/// How far a grace period has come for one seat: what was seen of its section word since a publish or a kill.
+/// How far a grace period has come for one seat: what was seen of its section word since a publish
+/// or a kill.
 #[derive(Clone, Copy)]
 pub enum Mark {
     Unseen,
@@ -107,7 +111,8 @@ pub enum Mark {
     Passed,
 }
 
-/// A counter as a whole number, which may be below 0: `ups` less `downs`. Its word is that number modulo 2^64.
+/// A counter as a whole number, which may be below 0: `ups` less `downs`. Its word is that number
+/// modulo 2^64.
 #[derive(Clone, Copy)]
 pub struct Count {
     /// How often it was raised.

@@ -4,4 +4,7 @@ use Rattle.ref_allowed.proofs.Positions.{any_some, some_any}
 use Rattle.ref_allowed.proofs.reference_conditions.keeps_hold.Goals as goal
 
 pub returns : goal.returns
-returns c = ((λ h. any_some (is_on c.args.disk) c.args.view.now.holds (sym c.any_hold.ensures ∙ h)), λ m. c.any_hold.ensures ∙ some_any (is_on c.args.disk) c.args.view.now.holds m)
+returns c = (
+  (λ h. any_some (is_on c.args.disk) c.args.view.now.holds (sym c.any_hold.ensures ∙ h)),
+  λ m. c.any_hold.ensures ∙ some_any (is_on c.args.disk) c.args.view.now.holds m,
+)

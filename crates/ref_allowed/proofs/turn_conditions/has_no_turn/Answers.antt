@@ -8,4 +8,9 @@ not_true true h = absurd (let g : false ≡ true = h in grind arith)
 not_true false h = refl
 
 pub returns : goal.returns
-returns c = ((λ h. none_any (is_slot c.args.slot) c.args.view.now.turns (sym c.any_turn.ensures ∙ not_true c.any_turn.result h)), λ m. ap not (c.any_turn.ensures ∙ any_none (is_slot c.args.slot) c.args.view.now.turns m))
+returns c = (
+  (λ h. none_any (is_slot c.args.slot) c.args.view.now.turns (sym c.any_turn.ensures
+      ∙ not_true c.any_turn.result h)),
+  λ m. ap not (c.any_turn.ensures
+      ∙ any_none (is_slot c.args.slot) c.args.view.now.turns m),
+)

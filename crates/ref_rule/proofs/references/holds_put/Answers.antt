@@ -4,4 +4,5 @@ use Rattle.ref_state.specs.Steps.{may_put, without_least}
 use Rattle.ref_rule.proofs.references.holds_put.Goals as goal
 
 pub returns : goal.returns
-returns c = c.remove_hold.ensures ∙ ap (λ (hs : List Hold). without_least (may_put c.args.disk) hs) (let e = c.in_ok-holds.ensures in cc)
+returns c = c.remove_hold.ensures ∙ ap (λ (hs : List Hold). without_least (may_put c.args.disk) hs)
+    (let e = c.in_ok-holds.ensures in cc)

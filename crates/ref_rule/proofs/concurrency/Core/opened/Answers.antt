@@ -5,5 +5,7 @@ use Rattle.ref_state.proofs.Opened.{opens}
 use Rattle.ref_rule.proofs.concurrency.Core.opened.Goals as goal
 
 pub invariant_of-result : goal.invariant_of-result
-invariant_of-result c = let qs = c.args.quotas.now in let d = c.args.disks in let ws = replicate c.args.rows 0 in
-    subst IsSound (sym c.in_ok-state.ensures) (parts_of (opened_core qs d (8 * d) ws) (opens qs d (8 * d) ws c.requires.sum))
+invariant_of-result c = let qs = c.args.quotas.now in let d = c.args.disks in
+    let ws = replicate c.args.rows 0 in
+    subst IsSound (sym c.in_ok-state.ensures) (parts_of (opened_core qs d (8 * d) ws)
+    (opens qs d (8 * d) ws c.requires.sum))
