@@ -1,5 +1,5 @@
 //! The state of an opened core.
-ghost use Rattle.std.specs.Prelude.{◌≡◌, ◌+◌, ◌*◌, ◌^◌, ◌<◌, ◌≤◌, ◌∷◌, [], length, replicate, IfOk};
+ghost use Rattle.std.specs.Prelude.{◌≡◌, ◌*◌, ◌^◌, ◌<◌, ◌≤◌, ◌∷◌, [], length, replicate, IfOk};
 ghost use Rattle.ref_state.specs.Soundness.{opened_core, live_disk, live_drain, seat_view, seats_from, sum_of};
 
 use lists::items::Items;

@@ -1,7 +1,7 @@
 //! Parts of a seat: what is split off, and what is joined.
-ghost use Rattle.std.specs.Prelude.{◌≡◌, ◌≢◌, ◌+◌, ◌-◌, ◌++◌, ◌^◌, ◌<◌, ◌==◌, if◌then◌else◌, length, max, IfOk, OnErr, OnOk};
+ghost use Rattle.std.specs.Prelude.{◌≡◌, ◌≢◌, ◌+◌, ◌^◌, ◌<◌, length, max, IfOk, OnErr, OnOk};
 ghost use Rattle.ref_state.specs.State.{view};
-ghost use Rattle.ref_state.specs.Steps.{next_core, answer_of, is_at, is_on, first, without, least, listed, after_split, split_part, after_join, spent_view};
+ghost use Rattle.ref_state.specs.Steps.{next_core, answer_of, is_at, is_on, first, without, least, listed, after_split, split_part, spent_view};
 
 use lists::items::Items;
 use ref_allowed::entries::entry_index;

@@ -1,6 +1,6 @@
 //! Steps on a disk's reference: gets and puts, and what the editor does from the kill to the next
 //! life.
-ghost use Rattle.std.specs.Prelude.{◌≡◌, ◌+◌, ◌++◌, ◌%◌, ◌^◌, ◌<◌, length, map, true, false, if◌then◌else◌, IfOk, OnErr, OnOk, slice_index_or, slice_set};
+ghost use Rattle.std.specs.Prelude.{◌≡◌, ◌+◌, ◌++◌, ◌^◌, ◌<◌, length, map, true, false, if◌then◌else◌, IfOk, OnErr, OnOk, slice_index_or, slice_set};
 ghost use Rattle.ref_state.specs.State.{view, disk as disk_at, no_count};
 ghost use Rattle.ref_state.specs.Steps.{next_core, answer_of, count_after, word_after, count_or, hold_of, section_got, loaded_mode, may_put, without_least, after_add};
 

@@ -1,6 +1,6 @@
 //! Steps of read sections and of the two sides of words.
-ghost use Rattle.std.specs.Prelude.{◌≡◌, ◌+◌, ◌++◌, ◌%◌, ◌^◌, ◌<◌, length, map, IfOk, OnErr, OnOk, slice_index, slice_index_or};
-ghost use Rattle.ref_state.specs.State.{view, side, conf, looked, own_entry};
+ghost use Rattle.std.specs.Prelude.{◌≡◌, ◌+◌, ◌++◌, ◌^◌, ◌<◌, length, map, IfOk, OnErr, OnOk, slice_index};
+ghost use Rattle.ref_state.specs.State.{view, side, looked, own_entry};
 ghost use Rattle.ref_state.specs.Steps.{next_core, answer_of, serial_of, at_mark, at_drain};
 
 use lists::items::Items;

@@ -1,5 +1,5 @@
 //! Steps on the turns of extents, and on what is held while a turn is.
-ghost use Rattle.std.specs.Prelude.{◌≡◌, ◌+◌, ◌/◌, ◌^◌, ◌<◌, length, position, IfOk, OnErr, OnOk};
+ghost use Rattle.std.specs.Prelude.{◌≡◌, ◌+◌, ◌^◌, ◌<◌, length, position, IfOk, OnErr, OnOk};
 ghost use Rattle.ref_state.specs.State.{view};
 ghost use Rattle.ref_state.specs.Steps.{next_core, answer_of, is_slot, change, without};
 
