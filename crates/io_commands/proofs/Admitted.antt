@@ -56,7 +56,6 @@ job_by : (e : Sqe) (row : NsRow) (w r z : Bool) → (e.opcode == WRITE) ≡ w �
     → (e.opcode ≢ FLUSH → first_block e + block_count e ≤ row.blocks)
     → e.sgl_len ≡ (cond (w || r) (block_count e * 2 ^ row.shift) 0)
     → (IsTrue (w || r) → e.sgl_len ≤ MAX_TRANSFER)
-   
     → IsJobOf e row (cond w (jobs.Write row.disk (first_block e) (block_count e)) (cond r (jobs.Read row.disk (first_block e) (block_count e)) (cond z (jobs.Zero row.disk (first_block e) (block_count e)) (jobs.Flush row.disk))))
 job_by e row true r z isw isr isz inside len few =
     let op : e.opcode ≡ WRITE = grind arith in

@@ -58,7 +58,6 @@ prints_more old new place kind number reply payload bytes a list p prints r =
 
 -- a record was appended, and then the call was counted
 pub adds : (old mid new : Output) (place : ℕ) (kind : Kind) (number : ℕ) (reply : Reply) (payload given : ℕ) (bytes : List ℕ)
-   
     → mid.records.bytes ≡ old.records.bytes ++ record_bytes (head_of place kind number reply (length bytes)) bytes
     → mid.places ≡ old.places → mid.submitted ≡ old.submitted → mid.executed ≡ old.executed
     → mid.refused ≡ old.refused → mid.taken ≡ old.taken → mid.given ≡ old.given
