@@ -6,3 +6,4 @@ pub mod Scans
 pub mod Seen
 pub mod Texts
 pub mod Each
+pub mod Decimals

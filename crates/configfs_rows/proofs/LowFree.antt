@@ -2,16 +2,19 @@
 use Rattle.std.proofs.Common.{◌≡◌, ℕ, suc, ◌+◌, ◌-◌, ◌<◌, Bool, true, false, cond, refl, sym, ap, ◌∙◌, arith}
 use Rattle.configfs_rows.specs.Places.{lowest_free}
 
-step_of : (more from : ℕ) (taken : ℕ → Bool) (b : Bool) → taken from ≡ b → lowest_free (suc more) from taken ≡ cond b (lowest_free more (from + 1) taken) from
+step_of : (more from : ℕ) (taken : ℕ → Bool) (b : Bool) → taken from ≡ b
+    → lowest_free (suc more) from taken ≡ cond b (lowest_free more (from + 1) taken) from
 unfolding lowest_free
 step_of more from taken b is = ap (λ t. cond t (lowest_free more (from + 1) taken) from) is
 
-pub low_taken : (n from : ℕ) (taken : ℕ → Bool) → from < n → taken from ≡ true → lowest_free (n - from) from taken ≡ lowest_free (n - (from + 1)) (from + 1) taken
+pub low_taken : (n from : ℕ) (taken : ℕ → Bool) → from < n → taken from ≡ true
+    → lowest_free (n - from) from taken ≡ lowest_free (n - (from + 1)) (from + 1) taken
 low_taken n from taken lt is =
     let e : n - from ≡ suc (n - (from + 1)) = omega arith in
     ap (λ k. lowest_free k from taken) e ∙ step_of (n - (from + 1)) from taken true is
 
-pub low_free : (n from : ℕ) (taken : ℕ → Bool) → from < n → taken from ≡ false → lowest_free (n - from) from taken ≡ from
+pub low_free : (n from : ℕ) (taken : ℕ → Bool) → from < n → taken from ≡ false
+    → lowest_free (n - from) from taken ≡ from
 low_free n from taken lt is =
     let e : n - from ≡ suc (n - (from + 1)) = omega arith in
     ap (λ k. lowest_free k from taken) e ∙ step_of (n - (from + 1)) from taken false is

@@ -21,7 +21,10 @@ holder_of (Some d) = d.holder
 -- the disks with another holder at a path
 abbrev pub hold : List ℕ → Option Holder → List DiskRow → List DiskRow
 hold path h [] = []
-hold path h (d ∷ disks) = if bytes_eq d.path path then record d { holder = h } ∷ disks else d ∷ hold path h disks
+hold path h (d ∷ disks) = if bytes_eq d.path path then record d {
+  holder =
+      h;
+} ∷ disks else d ∷ hold path h disks
 
 abbrev pub holds_path : List DiskRow → ℕ → ℕ → Option (List ℕ) → Bool
 holds_path disks sub nsid None = false

@@ -13,7 +13,8 @@ abbrev pub is_name_byte : ℕ → Bool
 is_name_byte b = nat_lt 32 b && nat_lt b 127 && not (b == 47)
 
 unfoldable pub is_nqn : List ℕ → Bool
-is_nqn bytes = nat_lt 0 (length bytes) && nat_le (length bytes) NQN_LEN && list_all is_name_byte bytes
+is_nqn bytes = nat_lt 0 (length bytes) && nat_le (length bytes) NQN_LEN
+    && list_all is_name_byte bytes
 
 -- the name that every subsystem with a discovery log answers to
 abbrev pub discovery_nqn : List ℕ

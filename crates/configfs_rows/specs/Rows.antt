@@ -7,7 +7,14 @@ use Rattle.configfs_rows.specs.declared.namespaces.NamespacePut.{NamespacePut}
 use Rattle.configfs_rows.specs.declared.namespaces.NamespacePut.TheVariants as put
 
 abbrev pub fresh_namespace : NamespaceRow
-fresh_namespace = record { device_path = None; disk = None; uuid = replicate 16 0; nguid = replicate 16 0; group = 1; enabled = false }
+fresh_namespace = record {
+  device_path = None;
+  disk = None;
+  uuid = replicate 16 0;
+  nguid = replicate 16 0;
+  group = 1;
+  enabled = false;
+}
 
 -- an identifier of a namespace
 abbrev pub identifier_of : Identifier → NamespaceRow → List ℕ
@@ -25,6 +32,10 @@ put_nguid identifier.Nguid bytes nguid = bytes
 
 abbrev pub put_in : NamespacePut → NamespaceRow → NamespaceRow
 put_in (put.Path path disk) n = record n { device_path = Some path; disk = disk }
-put_in (put.Identifier which bytes) n = record n { uuid = put_uuid which bytes n.uuid; nguid = put_nguid which bytes n.nguid }
+put_in (put.Identifier which bytes) n = record n {
+  uuid = put_uuid which bytes n.uuid;
+  nguid =
+      put_nguid which bytes n.nguid;
+}
 put_in (put.Group group) n = record n { group = group }
 put_in (put.Enabled enabled) n = record n { enabled = enabled }

@@ -18,7 +18,7 @@ mod subsystems;
 mod values;
 
 pub use disks::{DiskRow, Disks, Holder};
-pub use law::lowest_is_free;
+pub use law::{group_names_again, lowest_is_free};
 pub use limits::{
     MAX_ANA_GROUPS, MAX_CONTROLLERS, MAX_DISKS, MAX_HOSTS, MAX_NSID, MAX_PORTS, MAX_SUBSYSTEMS,
     MODEL_LEN, NQN_LEN, PATH_LEN, SERIAL_LEN, TRADDR_LEN, TRSVCID_LEN,
@@ -29,5 +29,5 @@ pub use nqn::Nqn;
 pub use ports::{Address, Groups, PortRow, Ports};
 pub use subsystems::{SubsystemPut, SubsystemRow, Subsystems};
 pub use values::{
-    group_number, is_adrfam, is_treq, is_trtype, may_be_path, may_be_text, parsed_uuid, stands,
+    group_number, is_adrfam, is_treq, is_trtype, may_be_path, may_be_text, parse_uuid, stands,
 };

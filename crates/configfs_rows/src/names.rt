@@ -30,7 +30,7 @@ impl Model for Names {
 }
 
 impl Names {
-    // The empty set.
+    /// The empty set.
     pub fn new(alloc: Global) -> Self
         ensures { result ≡ map.empty }
     {
@@ -60,7 +60,7 @@ impl Names {
         self.names.contains_key(name)
     }
 
-    // Adds a name. On want of memory the set is as before.
+    /// Adds a name. On want of memory the set is as before.
     pub fn insert(&mut self, name: Nqn) -> Result<(), AllocError>
         ensures ok { OnOk result (self.new ≡ map.insert self.old name tt) }
         ensures err { OnErr result (self.new ≡ self.old) }
@@ -69,7 +69,7 @@ impl Names {
         Ok(())
     }
 
-    // Takes a name away.
+    /// Takes a name away.
     pub fn remove(&mut self, name: &Nqn)
         ensures { self.new ≡ map.remove self.old name.now }
     {
@@ -98,7 +98,7 @@ impl Names {
         self.names.keys()
     }
 
-    // Puts a name in, or takes it away. Taking away takes no memory.
+    /// Puts a name in, or takes it away. Taking away takes no memory.
     pub fn keep_or_take(&mut self, name: &Nqn, kept: bool) -> Result<(), AllocError>
         ensures ok { OnOk result (self.new ≡ kept_or_taken self.old name.now kept) }
         ensures err { OnErr result (self.new ≡ self.old) }

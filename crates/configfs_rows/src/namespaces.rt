@@ -116,7 +116,7 @@ impl Model for Namespaces {
 }
 
 impl Namespaces {
-    // No namespace.
+    /// No namespace.
     pub fn new(alloc: Global) -> Self
         ensures { result ≡ map.empty }
     {
@@ -139,7 +139,7 @@ impl Namespaces {
         self.rows.len()
     }
 
-    // Makes a namespace. On want of memory all is as before.
+    /// Makes a namespace. On want of memory all is as before.
     pub fn add(&mut self, nsid: u32) -> Result<(), AllocError>
         ensures ok { OnOk result (self.new ≡ map.insert self.old nsid fresh_namespace) }
         ensures err { OnErr result (self.new ≡ self.old) }
@@ -148,14 +148,14 @@ impl Namespaces {
         Ok(())
     }
 
-    // Takes a namespace away.
+    /// Takes a namespace away.
     pub fn remove(&mut self, nsid: u32)
         ensures { self.new ≡ map.remove self.old nsid }
     {
         let _ = self.rows.remove(&nsid);
     }
 
-    // Puts a value into a namespace, where it is there.
+    /// Puts a value into a namespace, where it is there.
     pub fn put(&mut self, nsid: u32, put: NamespacePut)
         ensures { self.new ≡ update_at self.old nsid (put_in put) }
     {

@@ -73,7 +73,7 @@ impl Nqn {
         Ok(Nqn::read(bytes))
     }
 
-    // The NQN of these bytes, without memory.
+    /// The NQN of these bytes, without memory.
     pub fn read(bytes: &[u8]) -> Option<Self>
         ensures is { is_some result ≡ is_nqn bytes.now }
         ensures of { IfSome result (λ n. n ≡ bytes.now) }

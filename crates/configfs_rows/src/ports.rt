@@ -37,7 +37,7 @@ impl Model for Groups {
 }
 
 impl Groups {
-    // No group.
+    /// No group.
     pub fn new(alloc: Global) -> Self
         ensures { result ≡ map.empty }
     {
@@ -75,7 +75,7 @@ impl Groups {
         Ok(())
     }
 
-    // Takes a group away.
+    /// Takes a group away.
     pub fn remove(&mut self, group: u32)
         ensures { self.new ≡ map.remove self.old group }
     {
@@ -136,7 +136,7 @@ pub enum Address {
 }
 
 impl PortRow {
-    // A port as it is made, with group 1.
+    /// A port as it is made, with group 1.
     pub fn fresh(alloc: Global, id: u16, at: u8) -> Result<Self, AllocError>
         ensures { IfOk result (λ p. p ≡ fresh_port id at) }
     {
@@ -156,7 +156,7 @@ impl PortRow {
         })
     }
 
-    // Whether it has a subsystem link or an ANA group other than 1.
+    /// Whether it has a subsystem link or an ANA group other than 1.
     pub fn is_filled(&self) -> bool
         ensures { result ≡ (nat_lt 0 (map.len self.now.links) || nat_lt 1 (map.len self.now.groups)) }
     {
@@ -211,7 +211,7 @@ impl Model for Ports {
 }
 
 impl Ports {
-    // No port.
+    /// No port.
     pub fn new(alloc: Global) -> Self
         ensures { result ≡ map.empty }
     {
@@ -234,7 +234,7 @@ impl Ports {
         self.rows.get(&id)
     }
 
-    // Makes a port. On want of memory all is as before.
+    /// Makes a port. On want of memory all is as before.
     pub fn add(&mut self, id: u16, row: PortRow) -> Result<(), AllocError>
         ensures ok { OnOk result (self.new ≡ map.insert self.old id row) }
         ensures err { OnErr result (self.new ≡ self.old) }
@@ -243,14 +243,14 @@ impl Ports {
         Ok(())
     }
 
-    // Takes a port away.
+    /// Takes a port away.
     pub fn remove(&mut self, id: u16)
         ensures { self.new ≡ map.remove self.old id }
     {
         let _ = self.rows.remove(&id);
     }
 
-    // Puts an address into a port.
+    /// Puts an address into a port.
     pub fn put(&mut self, id: u16, address: Address, value: Name)
         ensures { self.new ≡ update_at self.old id (with_address address value) }
     {
@@ -260,7 +260,7 @@ impl Ports {
         row.put(address, value);
     }
 
-    // Gives a group of a port a state. On want of memory all is as before.
+    /// Gives a group of a port a state. On want of memory all is as before.
     pub fn put_group(&mut self, id: u16, group: u32, state: Ana) -> Result<(), AllocError>
         ensures ok { OnOk result (self.new ≡ update_at self.old id (put_group group state)) }
         ensures err { OnErr result (self.new ≡ self.old) }
@@ -273,7 +273,7 @@ impl Ports {
         Ok(())
     }
 
-    // Takes a group of a port away.
+    /// Takes a group of a port away.
     pub fn remove_group(&mut self, id: u16, group: u32)
         ensures { self.new ≡ update_at self.old id (remove_group group) }
     {
@@ -283,7 +283,7 @@ impl Ports {
         row.groups.remove(group);
     }
 
-    // Whether a port links the subsystem.
+    /// Whether a port links the subsystem.
     pub fn some_links(&self, name: &Nqn) -> bool
         ensures { result ≡ list_any (λ p. map.contains_key p.links name.now) (map.values self.now) }
     {
@@ -295,7 +295,7 @@ impl Ports {
         false
     }
 
-    // Whether a port stands at the position.
+    /// Whether a port stands at the position.
     pub fn has_place(&self, at: u8) -> bool
         ensures { result ≡ list_any (λ p. p.at == at) (map.values self.now) }
     {
@@ -307,9 +307,10 @@ impl Ports {
         false
     }
 
-    // The lowest free position.
+    /// The lowest free position.
     pub fn free_place(&self) -> u8
-        ensures { result ≡ lowest_free MAX_PORTS 0 (λ at. list_any (λ p. p.at == at) (map.values self.now)) }
+        ensures { result ≡ lowest_free MAX_PORTS 0 (λ at. list_any (λ p. p.at == at)
+            (map.values self.now)) }
     {
         for at in 0..MAX_PORTS as u8 {
             if !self.has_place(at) {
@@ -353,7 +354,7 @@ impl Ports {
         None
     }
 
-    // Makes the link to a subsystem, or takes it away.
+    /// Makes the link to a subsystem, or takes it away.
     pub fn put_link(&mut self, id: u16, nqn: &Nqn, linked: bool) -> Result<(), AllocError>
         ensures ok { OnOk result (self.new ≡ update_at self.old id (put_link nqn.now linked)) }
         ensures err { OnErr result (self.new ≡ self.old) }

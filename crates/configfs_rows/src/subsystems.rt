@@ -39,14 +39,15 @@ pub enum SubsystemPut {
 }
 
 impl SubsystemRow {
-    // Whether it has a namespace or an allowed host.
+    /// Whether it has a namespace or an allowed host.
     pub fn is_filled(&self) -> bool
-        ensures { result ≡ (nat_lt 0 (map.len self.now.namespaces) || nat_lt 0 (map.len self.now.allowed_hosts)) }
+        ensures { result ≡ (nat_lt 0 (map.len self.now.namespaces) || nat_lt 0
+            (map.len self.now.allowed_hosts)) }
     {
         self.namespaces.len() > 0 || self.allowed_hosts.len() > 0
     }
 
-    // A subsystem as it is made.
+    /// A subsystem as it is made.
     pub fn fresh(alloc: Global, nqn: &Nqn, at: u8) -> Result<Self, AllocError>
         ensures { IfOk result (λ s. s ≡ fresh_subsystem nqn.now at) }
     {
@@ -96,7 +97,7 @@ impl Model for Subsystems {
 }
 
 impl Subsystems {
-    // No subsystem.
+    /// No subsystem.
     pub fn new(alloc: Global) -> Self
         ensures { result ≡ map.empty }
     {
@@ -112,7 +113,7 @@ impl Subsystems {
         self.rows.get(name)
     }
 
-    // Puts a value into a namespace of a subsystem.
+    /// Puts a value into a namespace of a subsystem.
     pub fn put_namespace(&mut self, name: &Nqn, nsid: u32, put: NamespacePut)
         ensures { self.new ≡ update_at self.old name.now (put_namespace nsid put) }
     {
@@ -122,7 +123,7 @@ impl Subsystems {
         row.namespaces.put(nsid, put);
     }
 
-    // Makes a namespace, where the subsystem is there. On want of memory all is as before.
+    /// Makes a namespace, where the subsystem is there. On want of memory all is as before.
     pub fn add_namespace(&mut self, name: &Nqn, nsid: u32) -> Result<(), AllocError>
         ensures ok { OnOk result (self.new ≡ update_at self.old name.now (add_namespace nsid)) }
         ensures err { OnErr result (self.new ≡ self.old) }
@@ -134,7 +135,7 @@ impl Subsystems {
         Ok(())
     }
 
-    // Takes a namespace away.
+    /// Takes a namespace away.
     pub fn remove_namespace(&mut self, name: &Nqn, nsid: u32)
         ensures { self.new ≡ update_at self.old name.now (remove_namespace nsid) }
     {
@@ -144,9 +145,10 @@ impl Subsystems {
         row.namespaces.remove(nsid);
     }
 
-    // Whether a subsystem allows the host by a link.
+    /// Whether a subsystem allows the host by a link.
     pub fn some_allows(&self, host: &Nqn) -> bool
-        ensures { result ≡ list_any (λ s. map.contains_key s.allowed_hosts host.now) (map.values self.now) }
+        ensures { result ≡ list_any (λ s. map.contains_key s.allowed_hosts host.now)
+            (map.values self.now) }
     {
         for row in self.rows.values() {
             if row.allowed_hosts.contains(host) {
@@ -163,7 +165,7 @@ impl Subsystems {
         self.rows.len()
     }
 
-    // Makes a subsystem. On want of memory all is as before.
+    /// Makes a subsystem. On want of memory all is as before.
     pub fn add(&mut self, name: Nqn, row: SubsystemRow) -> Result<(), AllocError>
         ensures ok { OnOk result (self.new ≡ map.insert self.old name row) }
         ensures err { OnErr result (self.new ≡ self.old) }
@@ -184,9 +186,10 @@ impl Subsystems {
         false
     }
 
-    // The lowest free position.
+    /// The lowest free position.
     pub fn free_place(&self) -> u8
-        ensures { result ≡ lowest_free MAX_SUBSYSTEMS 0 (λ at. list_any (λ s. s.at == at) (map.values self.now)) }
+        ensures { result ≡ lowest_free MAX_SUBSYSTEMS 0 (λ at. list_any (λ s. s.at == at)
+            (map.values self.now)) }
     {
         for at in 0..MAX_SUBSYSTEMS as u8 {
             if !self.has_place(at) {
@@ -196,7 +199,7 @@ impl Subsystems {
         MAX_SUBSYSTEMS as u8
     }
 
-    // Puts a value into a subsystem, where it is there.
+    /// Puts a value into a subsystem, where it is there.
     pub fn put(&mut self, name: &Nqn, put: SubsystemPut)
         ensures { self.new ≡ update_at self.old name.now (put_in_subsystem put) }
     {
@@ -206,7 +209,7 @@ impl Subsystems {
         row.put(put);
     }
 
-    // Takes a subsystem away.
+    /// Takes a subsystem away.
     pub fn remove(&mut self, name: &Nqn)
         ensures { self.new ≡ map.remove self.old name.now }
     {
@@ -247,9 +250,10 @@ impl Subsystems {
         None
     }
 
-    // Makes the link to a host, or takes it away.
+    /// Makes the link to a host, or takes it away.
     pub fn put_allowed(&mut self, name: &Nqn, host: &Nqn, linked: bool) -> Result<(), AllocError>
-        ensures ok { OnOk result (self.new ≡ update_at self.old name.now (put_allowed host.now linked)) }
+        ensures ok { OnOk result (self.new ≡ update_at self.old name.now
+            (put_allowed host.now linked)) }
         ensures err { OnErr result (self.new ≡ self.old) }
         ensures taken { linked ≡ false → IsOk result }
     {

@@ -2,28 +2,28 @@
 ghost use Rattle.std.specs.Prelude.{◌≡◌, ◌==◌, ◌+◌, ◌-◌, ◌*◌, ◌<◌, ◌≤◌, not, length, slice_index, IsTrue};
 ghost use Rattle.std.specs.List.{list_all};
 ghost use Rattle.configfs_rows.specs.Values.{has_path};
-ghost use Rattle.configfs_rows.specs.Values.{is_text, is_path, is_digit, decimal_value, group_named, is_trtype, is_adrfam, is_treq};
+ghost use Rattle.configfs_rows.specs.Values.{is_text, is_path, is_digit, starts_well, decimal_value, group_named, is_trtype, is_adrfam, is_treq};
 ghost use Rattle.uuid.specs.Text.{parsed};
 
 use crate::limits::{MAX_ANA_GROUPS, PATH_LEN};
 use mem_bdev::Name;
 use uuid::Uuid;
 
-// Whether each byte may stand in a value: a printable character or a space.
+/// Whether each byte may stand in a value: a printable character or a space.
 pub fn may_be_text(value: &[u8]) -> bool
     ensures { result ≡ is_text value.now }
 {
-    value.iter().all(|b| *b > 31 && *b < 127)
+    value.iter().all(|b| *b >= b' ' && *b <= b'~')
 }
 
 // Whether no byte is a space.
 fn has_no_space(value: &[u8]) -> bool
     ensures { result ≡ list_all (λ b. not (b == 32)) value.now }
 {
-    value.iter().all(|b| !(*b == 32))
+    value.iter().all(|b| *b != b' ')
 }
 
-// Whether a text may be a device path.
+/// Whether a text may be a device path.
 pub fn may_be_path(value: &[u8]) -> bool
     ensures { result ≡ is_path value.now }
 {
@@ -36,7 +36,7 @@ pub fn may_be_path(value: &[u8]) -> bool
     has_no_space(value)
 }
 
-// Whether a path is set to a value.
+/// Whether a path is set to a value.
 pub fn stands(path: &Option<Name>, value: &[u8]) -> bool
     ensures { result ≡ has_path path.now value.now }
 {
@@ -46,15 +46,11 @@ pub fn stands(path: &Option<Name>, value: &[u8]) -> bool
     }
 }
 
-// The bytes that a text parses to as a UUID.
-pub fn parsed_uuid(value: &[u8]) -> Option<[u8; 16]>
-    requires { IsTrue (is_text value.now) }
+/// The bytes that a text parses to as a UUID.
+pub fn parse_uuid(value: &[u8]) -> Option<[u8; 16]>
     ensures { result ≡ parsed value.now }
 {
-    let Ok(text) = str::from_utf8(value) else {
-        return None;
-    };
-    match Uuid::parse_str(text) {
+    match Uuid::try_parse_ascii(value) {
         Ok(uuid) => Some(uuid.into_bytes()),
         Err(_) => None,
     }
@@ -64,7 +60,18 @@ pub fn parsed_uuid(value: &[u8]) -> Option<[u8; 16]>
 fn all_digits(value: &[u8]) -> bool
     ensures { result ≡ list_all is_digit value.now }
 {
-    value.iter().all(|b| *b > 47 && *b < 58)
+    value.iter().all(|b| *b >= b'0' && *b <= b'9')
+}
+
+// Whether no digit 0 stands in front of another.
+fn starts_well(digits: &[u8]) -> bool
+    ensures { result ≡ starts_well digits.now }
+{
+    match digits {
+        [] => true,
+        [_] => true,
+        [a, ..] => *a != b'0',
+    }
 }
 
 // The number of up to three digits.
@@ -75,19 +82,19 @@ fn small_number(digits: &[u8]) -> u32
 {
     match digits {
         [] => 0,
-        [a] => (*a - 48) as u32,
-        [a, b] => (*a - 48) as u32 * 10 + (*b - 48) as u32,
-        [a, b, c] => ((*a - 48) as u32 * 10 + (*b - 48) as u32) * 10 + (*c - 48) as u32,
+        [a] => (*a - b'0') as u32,
+        [a, b] => (*a - b'0') as u32 * 10 + (*b - b'0') as u32,
+        [a, b, c] => { ((*a - b'0') as u32 * 10 + (*b - b'0') as u32) * 10 + (*c - b'0') as u32 }
         _ => unreachable!(),
     }
 }
 
-// The ANA group that a text names: a decimal number from 1 to 128.
+/// The ANA group that a text names: a decimal number from 1 to 128.
 #[tactic(auto, unfolding(crate::specs::Values::group_named))]
 pub fn group_number(value: &[u8]) -> Option<u8>
     ensures { result ≡ group_named value.now }
 {
-    if value.is_empty() || !all_digits(value) || value[0] == b'0' {
+    if value.is_empty() || !all_digits(value) || !starts_well(value) {
         return None;
     }
     if value.len() > 3 {
@@ -100,7 +107,7 @@ pub fn group_number(value: &[u8]) -> Option<u8>
     Some(number as u8)
 }
 
-// Whether a text names a transport type.
+/// Whether a text names a transport type.
 pub fn is_trtype(value: &[u8]) -> bool
     ensures { result ≡ is_trtype value.now }
 {
@@ -110,7 +117,7 @@ pub fn is_trtype(value: &[u8]) -> bool
         || value == b"fc".as_slice()
 }
 
-// Whether a text names an address family, or is empty.
+/// Whether a text names an address family, or is empty.
 pub fn is_adrfam(value: &[u8]) -> bool
     ensures { result ≡ is_adrfam value.now }
 {
@@ -123,7 +130,7 @@ pub fn is_adrfam(value: &[u8]) -> bool
         || value == b"pcie".as_slice()
 }
 
-// Whether a text says if secure channels are required.
+/// Whether a text says if secure channels are required.
 pub fn is_treq(value: &[u8]) -> bool
     ensures { result ≡ is_treq value.now }
 {

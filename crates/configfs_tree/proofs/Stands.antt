@@ -51,34 +51,56 @@ use Rattle.configfs_tree.proofs.KeptTable.{edit_keeps, k_set_enable, loaded_stan
 use Rattle.configfs_tree.proofs.SoundTable.{disks_held, edit_sounds, f_set_enable, subsystem_sound, on_port_sound}
 
 -- ---- what an outcome's tree has, a call leaves
-pub given : (P : Configuration → Type 0) (grows : Bool) (o : Outcome) (old : Configuration) (r : Result Change Refused) (new : Configuration) → Gives grows o old r new → Holds (λ u change. P u) o → P old → P new
-given P grows o old (Ok change) new g k h = accepted {P = λ u change. P u} new change (subst (λ (x : Outcome). Holds (λ u change. P u) x) g k)
+pub given : (P : Configuration → Type 0) (grows : Bool) (o : Outcome) (old : Configuration)
+    (r : Result Change Refused) (new : Configuration) → Gives grows o old r new
+    → Holds (λ u change. P u) o → P old → P new
+given P grows o old (Ok change) new g k h =
+    accepted {P = λ u change. P u} new change (subst (λ (x : Outcome). Holds (λ u change. P u) x) g
+    k)
 given P grows o old (Err (refused.Errno errno)) new g k h = subst P (sym g.1) h
 given P grows o old (Err refused.Memory) new g k h = subst P (sym g.0) h
 
-pub given_errno : (P : Configuration → Type 0) (o : Outcome) (old : Configuration) (r : Result Change Errno) (new : Configuration) → GivesErrno o old r new → Holds (λ u change. P u) o → P old → P new
-given_errno P o old (Ok change) new g k h = accepted {P = λ u change. P u} new change (subst (λ (x : Outcome). Holds (λ u change. P u) x) g k)
+pub given_errno : (P : Configuration → Type 0) (o : Outcome) (old : Configuration)
+    (r : Result Change Errno) (new : Configuration) → GivesErrno o old r new
+    → Holds (λ u change. P u) o → P old → P new
+given_errno P o old (Ok change) new g k h =
+    accepted {P = λ u change. P u} new change (subst (λ (x : Outcome). Holds (λ u change. P u) x) g
+    k)
 given_errno P o old (Err errno) new g k h = subst P (sym g.1) h
 
 -- what is told of an accepted edit
-pub given_ok : (P : Configuration → Change → Type 0) (grows : Bool) (o : Outcome) (old : Configuration) (r : Result Change Refused) (new : Configuration) → Gives grows o old r new → Holds P o → IfOk r (λ change. P new change)
-given_ok P grows o old (Ok change) new g k = accepted {P = P} new change (subst (λ (x : Outcome). Holds P x) g k)
+pub given_ok : (P : Configuration → Change
+    → Type 0) (grows : Bool) (o : Outcome) (old : Configuration) (r : Result Change Refused)
+    (new : Configuration) → Gives grows o old r new → Holds P o → IfOk r (λ change. P new change)
+given_ok P grows o old (Ok change) new g k =
+    accepted {P = P} new change (subst (λ (x : Outcome). Holds P x) g k)
 given_ok P grows o old (Err e) new g k = tt
 
-pub given_errno_ok : (P : Configuration → Change → Type 0) (o : Outcome) (old : Configuration) (r : Result Change Errno) (new : Configuration) → GivesErrno o old r new → Holds P o → IfOk r (λ change. P new change)
-given_errno_ok P o old (Ok change) new g k = accepted {P = P} new change (subst (λ (x : Outcome). Holds P x) g k)
+pub given_errno_ok : (P : Configuration → Change
+    → Type 0) (o : Outcome) (old : Configuration) (r : Result Change Errno) (new : Configuration)
+    → GivesErrno o old r new → Holds P o → IfOk r (λ change. P new change)
+given_errno_ok P o old (Ok change) new g k =
+    accepted {P = P} new change (subst (λ (x : Outcome). Holds P x) g k)
 given_errno_ok P o old (Err e) new g k = tt
 
-pub edit_stands : (t : Configuration) (e : FolderEdit) (r : Result Change Refused) (u : Configuration) → Gives (may_grow e) (edit_outcome t e) t r u → IsTrue (is_fitting e) → IsTrue (is_named e) → IsStanding t → IsStanding u
+pub edit_stands : (t : Configuration) (e : FolderEdit) (r : Result Change Refused)
+    (u : Configuration) → Gives (may_grow e) (edit_outcome t e) t r u → IsTrue (is_fitting e)
+    → IsTrue (is_named e) → IsStanding t → IsStanding u
 edit_stands t e r u g fitting named h = record {
-  placed = given (λ x. IsPlaced x) (may_grow e) (edit_outcome t e) t r u g (edit_keeps t e h.placed) h.placed;
-  sound = given (λ x. IsSound x) (may_grow e) (edit_outcome t e) t r u g (edit_sounds t e fitting named h.sound) h.sound;
+  placed = given (λ x. IsPlaced x) (may_grow e) (edit_outcome t e) t r u g (edit_keeps t e h.placed)
+      h.placed;
+  sound = given (λ x. IsSound x) (may_grow e) (edit_outcome t e) t r u g
+      (edit_sounds t e fitting named h.sound) h.sound;
 }
 
-pub enable_stands : (t : Configuration) (sub : List ℕ) (nsid : ℕ) (value : List ℕ) (r : Result Change Errno) (u : Configuration) → GivesErrno (set_enable t sub nsid value) t r u → IsStanding t → IsStanding u
+pub enable_stands : (t : Configuration) (sub : List ℕ) (nsid : ℕ) (value : List ℕ)
+    (r : Result Change Errno) (u : Configuration) → GivesErrno (set_enable t sub nsid value) t r u
+    → IsStanding t → IsStanding u
 enable_stands t sub nsid value r u g h = record {
-  placed = given_errno (λ x. IsPlaced x) (set_enable t sub nsid value) t r u g (k_set_enable t sub nsid value h.placed) h.placed;
-  sound = given_errno (λ x. IsSound x) (set_enable t sub nsid value) t r u g (f_set_enable t sub nsid value h.sound) h.sound;
+  placed = given_errno (λ x. IsPlaced x) (set_enable t sub nsid value) t r u g
+      (k_set_enable t sub nsid value h.placed) h.placed;
+  sound = given_errno (λ x. IsSound x) (set_enable t sub nsid value) t r u g
+      (f_set_enable t sub nsid value h.sound) h.sound;
 }
 
 -- ---- a drain ends
@@ -90,11 +112,13 @@ freed_by_sound : (t : Configuration) (n : Option NamespaceRow) → IsSound t →
 freed_by_sound t None s = s
 freed_by_sound t (Some n) s = freed_sound t n.device_path s
 
-freed_in_sound : (t : Configuration) (nsid : ℕ) (x : Option SubsystemRow) → IsSound t → IsSound (freed_in t nsid x)
+freed_in_sound : (t : Configuration) (nsid : ℕ) (x : Option SubsystemRow) → IsSound t
+    → IsSound (freed_in t nsid x)
 freed_in_sound t nsid None s = s
 freed_in_sound t nsid (Some x) s = freed_by_sound t (map.get x.namespaces nsid) s
 
-pub drain_stands : (t : Configuration) (sub : List ℕ) (nsid : ℕ) → phase_at t sub nsid ≡ Some phase.Draining → IsStanding t → IsStanding (drained t sub nsid)
+pub drain_stands : (t : Configuration) (sub : List ℕ) (nsid : ℕ)
+    → phase_at t sub nsid ≡ Some phase.Draining → IsStanding t → IsStanding (drained t sub nsid)
 drain_stands t sub nsid draining h = record {
   placed = drained_stands t sub nsid draining h.placed;
   sound = freed_in_sound t nsid (map.get t.settings.subsystems sub) h.sound;
@@ -104,31 +128,53 @@ drain_stands t sub nsid draining h = record {
 pub load_stands : (t : Configuration) → IsStanding t → IsStanding (with_no_changes t)
 load_stands t h = let s = h.sound in record {
   placed = loaded_stands t h.placed;
-  sound = record { few_hosts = s.few_hosts; hosts = s.hosts; few_disks = s.few_disks; disks_apart = s.disks_apart; subsystems = s.subsystems; ports = s.ports };
+  sound = record {
+    few_hosts = s.few_hosts;
+    hosts = s.hosts;
+    few_disks = s.few_disks;
+    disks_apart = s.disks_apart;
+    subsystems = s.subsystems;
+    ports = s.ports;
+  };
 }
 
-pub attach_stands : (t : Configuration) (attached : Attached) → IsStanding t → IsStanding (with_settings t (record t.settings { attached = attached }))
+pub attach_stands : (t : Configuration) (attached : Attached) → IsStanding t
+    → IsStanding (with_settings t (record t.settings { attached = attached }))
 attach_stands t attached h = let s = h.sound in record {
   placed = any_attached t attached h.placed;
-  sound = record { few_hosts = s.few_hosts; hosts = s.hosts; few_disks = s.few_disks; disks_apart = s.disks_apart; subsystems = s.subsystems; ports = s.ports };
+  sound = record {
+    few_hosts = s.few_hosts;
+    hosts = s.hosts;
+    few_disks = s.few_disks;
+    disks_apart = s.disks_apart;
+    subsystems = s.subsystems;
+    ports = s.ports;
+  };
 }
 
 -- ---- the empty tree
-free_paths : (lines : List DiskLine) → paths_of (map_list free_disk lines) ≡ map_list line_path lines
+free_paths : (lines : List DiskLine) → paths_of (map_list free_disk lines)
+    ≡ map_list line_path lines
 free_paths [] = refl
 free_paths (line ∷ lines) = ap (λ ps. line.path ∷ ps) (free_paths lines)
 
-pub start_stands : (lines : List DiskLine) → IsTrue (are_disks lines) → IsStanding (empty_tree lines)
+pub start_stands : (lines : List DiskLine) → IsTrue (are_disks lines)
+    → IsStanding (empty_tree lines)
 start_stands lines fine = record {
   placed = empty_stands lines;
   sound = record {
-    few_hosts = let e : map.len (map.empty {X = Unit {0}} {R = name_order}) ≡ 0 = map.len-empty name_order (Unit {0}) in omega arith;
-    hosts = λ host has. absurd (both_ways (map.contains_key (map.empty {X = Unit {0}} {R = name_order}) host) (ap is_some (map.get-empty name_order host)) has);
+    few_hosts = let e : map.len (map.empty {X = Unit {0}} {R = name_order}) ≡ 0 =
+        map.len-empty name_order (Unit {0}) in omega arith;
+    hosts = λ host has. absurd (both_ways (map.contains_key (map.empty {X = Unit {0}} {R =
+        name_order}) host) (ap is_some (map.get-empty name_order host)) has);
     few_disks =
-        let few : length lines ≤ MAX_DISKS = leb-true (length lines) MAX_DISKS (left_true (nat_le (length lines) MAX_DISKS) (are_apart (map_list line_path lines)) fine) in
+        let few : length lines ≤ MAX_DISKS = leb-true (length lines) MAX_DISKS
+        (left_true (nat_le (length lines) MAX_DISKS) (are_apart (map_list line_path lines))
+        fine) in
         let same : length (map_list free_disk lines) ≡ length lines = length-map lines free_disk in
         omega arith;
-    disks_apart = ap are_apart (free_paths lines) ∙ right_true (nat_le (length lines) MAX_DISKS) (are_apart (map_list line_path lines)) fine;
+    disks_apart = ap are_apart (free_paths lines)
+        ∙ right_true (nat_le (length lines) MAX_DISKS) (are_apart (map_list line_path lines)) fine;
     subsystems = λ sub s e. absurd (none_some s (sym (map.get-empty name_order sub) ∙ e));
     ports = λ id p e. absurd (none_some p (sym (map.get-empty nat_cmp id) ∙ e));
   };
@@ -136,17 +182,25 @@ start_stands lines fine = record {
 
 -- ---- links, by their ends' positions
 -- the row at a position is the row of its own name
-pub own_subsystem : (t : Configuration) (at : ℕ) (s : SubsystemRow) → subsystem_row t at ≡ Some s → IsPlaced t → map.get t.settings.subsystems s.nqn ≡ Some s
+pub own_subsystem : (t : Configuration) (at : ℕ) (s : SubsystemRow) → subsystem_row t at ≡ Some s
+    → IsPlaced t → map.get t.settings.subsystems s.nqn ≡ Some s
 own_subsystem t at s e h =
-    let r = scan_found nat_list_cmp_total names_same (λ (x : SubsystemRow). x.at == at) t.settings.subsystems s e in
-    ap (λ (k : List ℕ). map.get t.settings.subsystems k) (h.subsystems.own_key r.key s r.found) ∙ r.found
+    let r = scan_found nat_list_cmp_total names_same (λ (x : SubsystemRow). x.at == at)
+    t.settings.subsystems s e in
+    ap (λ (k : List ℕ). map.get t.settings.subsystems k) (h.subsystems.own_key r.key s r.found)
+    ∙ r.found
 
-pub own_port : (t : Configuration) (at : ℕ) (p : PortRow) → port_row t at ≡ Some p → IsPlaced t → map.get t.settings.ports p.id ≡ Some p
+pub own_port : (t : Configuration) (at : ℕ) (p : PortRow) → port_row t at ≡ Some p → IsPlaced t
+    → map.get t.settings.ports p.id ≡ Some p
 own_port t at p e h =
-    let r = scan_found nat_cmp_total nat_cmp-IsAntisymmetric (λ (x : PortRow). x.at == at) t.settings.ports p e in
+    let r = scan_found nat_cmp_total nat_cmp-IsAntisymmetric (λ (x : PortRow). x.at == at)
+    t.settings.ports p e in
     ap (λ (k : ℕ). map.get t.settings.ports k) (h.ports.own_key r.key p r.found) ∙ r.found
 
-allow_one : (hosts : Hosts) (paths : List (List ℕ)) (sub : List ℕ) (host : List ℕ) (linked : Bool) (x : SubsystemRow) → IsTrue (map.contains_key hosts host) → (linked ≡ true → x.allow_any_host ≡ false) → SubsystemStands hosts paths sub x → SubsystemStands hosts paths sub (put_allowed host linked x)
+allow_one : (hosts : Hosts) (paths : List (List ℕ)) (sub : List ℕ) (host : List ℕ) (linked : Bool)
+    (x : SubsystemRow) → IsTrue (map.contains_key hosts host)
+    → (linked ≡ true → x.allow_any_host ≡ false) → SubsystemStands hosts paths sub x
+    → SubsystemStands hosts paths sub (put_allowed host linked x)
 allow_one hosts paths sub host true x there listed h = record {
   nqn = h.nqn;
   not_discovery = h.not_discovery;
@@ -166,25 +220,37 @@ allow_one hosts paths sub host false x there listed h = record {
   model_name = h.model_name;
   any_host = λ any.
       let none : map.len x.allowed_hosts ≡ 0 = h.any_host any in
-      let fewer : map.len (map.remove x.allowed_hosts host) ≤ map.len x.allowed_hosts = len_removed nat_list_cmp_total names_same x.allowed_hosts host in
+      let fewer : map.len (map.remove x.allowed_hosts host) ≤ map.len x.allowed_hosts =
+      len_removed nat_list_cmp_total names_same x.allowed_hosts host in
       omega arith;
-  allowed = λ q has. h.allowed q (has_removed nat_list_cmp_total names_same x.allowed_hosts host q has).1;
+  allowed = λ q has. h.allowed q (has_removed nat_list_cmp_total names_same x.allowed_hosts host q
+      has).1;
   namespaces = h.namespaces;
 }
 
-allowed_sound : (t : Configuration) (host : List ℕ) (linked : Bool) (at : ℕ) (found : Option SubsystemRow) → subsystem_row t at ≡ found → IsTrue (map.contains_key t.settings.hosts host) → (linked ≡ true → allows_any found ≡ false) → IsPlaced t → IsSound t → IsSound (allowed_in t host linked found)
+allowed_sound : (t : Configuration) (host : List ℕ) (linked : Bool) (at : ℕ)
+    (found : Option SubsystemRow) → subsystem_row t at ≡ found
+    → IsTrue (map.contains_key t.settings.hosts host) → (linked ≡ true → allows_any found ≡ false)
+    → IsPlaced t → IsSound t → IsSound (allowed_in t host linked found)
 allowed_sound t host linked at None e there listed h s = s
-allowed_sound t host linked at (Some x) e there listed h s = subsystem_sound t x.nqn (put_allowed host linked)
+allowed_sound t host linked at (Some x) e there listed h s =
+    subsystem_sound t x.nqn (put_allowed host linked)
     (λ y f k. allow_one t.settings.hosts (paths_of t.disks) x.nqn host linked y there
-    (λ is. ap (λ (z : SubsystemRow). z.allow_any_host) (some_same y x (sym f ∙ own_subsystem t at x e h)) ∙ listed is) k) s
+    (λ is. ap (λ (z : SubsystemRow). z.allow_any_host) (some_same y x (sym f
+    ∙ own_subsystem t at x e h)) ∙ listed is) k) s
 
-pub allow_stands : (t : Configuration) (at : ℕ) (host : List ℕ) (linked : Bool) → IsTrue (map.contains_key t.settings.hosts host) → (linked ≡ true → allows_any (subsystem_row t at) ≡ false) → IsStanding t → IsStanding (allowed_in t host linked (subsystem_row t at))
+pub allow_stands : (t : Configuration) (at : ℕ) (host : List ℕ) (linked : Bool)
+    → IsTrue (map.contains_key t.settings.hosts host) → (linked ≡ true
+    → allows_any (subsystem_row t at) ≡ false) → IsStanding t
+    → IsStanding (allowed_in t host linked (subsystem_row t at))
 allow_stands t at host linked there listed h = record {
   placed = allowed_stands t host linked (subsystem_row t at) h.placed;
   sound = allowed_sound t host linked at (subsystem_row t at) refl there listed h.placed h.sound;
 }
 
-link_one : (m : FinMap name_order SubsystemRow) (nqn : List ℕ) (linked : Bool) (p : PortRow) → IsTrue (map.contains_key m nqn) → (linked ≡ true → p.trtype ≡ codes "loop") → PortStands m p → PortStands m (put_link nqn linked p)
+link_one : (m : FinMap name_order SubsystemRow) (nqn : List ℕ) (linked : Bool) (p : PortRow)
+    → IsTrue (map.contains_key m nqn) → (linked ≡ true → p.trtype ≡ codes "loop") → PortStands m p
+    → PortStands m (put_link nqn linked p)
 link_one m nqn true p there loop h = record {
   addresses = same_addresses true h.addresses;
   group_low = h.group_low;
@@ -195,7 +261,8 @@ link_one m nqn true p there loop h = record {
       (has_inserted nat_list_cmp_total names_same p.links nqn tt q has);
   loop = λ q has. loop refl;
 } where
-  same_addresses : (b : Bool) → ((a : Address) → IsTrue (is_address a (address_of a p))) → (a : Address) → IsTrue (is_address a (address_of a (put_link nqn b p)))
+  same_addresses : (b : Bool) → ((a : Address) → IsTrue (is_address a (address_of a p)))
+      → (a : Address) → IsTrue (is_address a (address_of a (put_link nqn b p)))
   same_addresses b k address.Trtype = k address.Trtype
   same_addresses b k address.Adrfam = k address.Adrfam
   same_addresses b k address.Traddr = k address.Traddr
@@ -208,26 +275,36 @@ link_one m nqn false p there loop h = record {
   links = λ q has. h.links q (has_removed nat_list_cmp_total names_same p.links nqn q has).1;
   loop = λ q has. h.loop q (has_removed nat_list_cmp_total names_same p.links nqn q has).1;
 } where
-  same_addresses : (b : Bool) → ((a : Address) → IsTrue (is_address a (address_of a p))) → (a : Address) → IsTrue (is_address a (address_of a (put_link nqn b p)))
+  same_addresses : (b : Bool) → ((a : Address) → IsTrue (is_address a (address_of a p)))
+      → (a : Address) → IsTrue (is_address a (address_of a (put_link nqn b p)))
   same_addresses b k address.Trtype = k address.Trtype
   same_addresses b k address.Adrfam = k address.Adrfam
   same_addresses b k address.Traddr = k address.Traddr
   same_addresses b k address.Trsvcid = k address.Trsvcid
   same_addresses b k address.Treq = k address.Treq
 
-linked_sound : (t : Configuration) (linked : Bool) (port at : ℕ) (p : Option PortRow) (x : Option SubsystemRow) → port_row t port ≡ p → subsystem_row t at ≡ x → (linked ≡ true → IsTrue (is_loop p)) → IsPlaced t → IsSound t → IsSound (linked_in t linked p x)
+linked_sound : (t : Configuration) (linked : Bool) (port at : ℕ) (p : Option PortRow)
+    (x : Option SubsystemRow) → port_row t port ≡ p → subsystem_row t at ≡ x
+    → (linked ≡ true → IsTrue (is_loop p)) → IsPlaced t → IsSound t
+    → IsSound (linked_in t linked p x)
 linked_sound t linked port at None x e f loop h s = s
 linked_sound t linked port at (Some p) None e f loop h s = s
-linked_sound t linked port at (Some p) (Some x) e f loop h s = on_port_sound t p.id (put_link x.nqn linked)
+linked_sound t linked port at (Some p) (Some x) e f loop h s =
+    on_port_sound t p.id (put_link x.nqn linked)
     (λ q g k. link_one t.settings.subsystems x.nqn linked q (ap is_some (own_subsystem t at x f h))
-    (λ is. ap (λ (z : PortRow). z.trtype) (some_same q p (sym g ∙ own_port t port p e h)) ∙ (bytes_eq-Decides p.trtype (codes "loop")).0 (loop is)) k) s
+    (λ is. ap (λ (z : PortRow). z.trtype) (some_same q p (sym g ∙ own_port t port p e h))
+    ∙ (bytes_eq-Decides p.trtype (codes "loop")).0 (loop is)) k) s
 
-pub link_stands : (t : Configuration) (port at : ℕ) (linked : Bool) → (linked ≡ true → IsTrue (is_loop (port_row t port))) → IsStanding t → IsStanding (linked_in t linked (port_row t port) (subsystem_row t at))
+pub link_stands : (t : Configuration) (port at : ℕ) (linked : Bool)
+    → (linked ≡ true → IsTrue (is_loop (port_row t port))) → IsStanding t
+    → IsStanding (linked_in t linked (port_row t port) (subsystem_row t at))
 link_stands t port at linked loop h = record {
   placed = linked_stands t linked (port_row t port) (subsystem_row t at) h.placed;
-  sound = linked_sound t linked port at (port_row t port) (subsystem_row t at) refl refl loop h.placed h.sound;
+  sound = linked_sound t linked port at (port_row t port) (subsystem_row t at) refl refl loop
+      h.placed h.sound;
 }
 
-pub either_way : {E : Type 0} (r : Result (Unit {0}) E) (old new u : Configuration) → OnOk r (new ≡ u) → OnErr r (new ≡ old) → IsStanding u → IsStanding old → IsStanding new
+pub either_way : {E : Type 0} (r : Result (Unit {0}) E) (old new u : Configuration)
+    → OnOk r (new ≡ u) → OnErr r (new ≡ old) → IsStanding u → IsStanding old → IsStanding new
 either_way (Ok x) old new u ok err k h = subst (λ (t : Configuration). IsStanding t) (sym ok) k
 either_way (Err x) old new u ok err k h = subst (λ (t : Configuration). IsStanding t) (sym err) h

@@ -27,20 +27,29 @@ use Rattle.configfs_tree.proofs.Slots.{Ports, OneSlot, slot_look, slot_both, sam
 
 -- ---- maps that differ
 module _ {K X : Type 0} {R : K → K → Ordering} (o : IsTotalOrder R) (same : IsAntisymmetric R) where
-  pub insert_differs : (m : FinMap R X) (k : K) (v : X) → map.get m k ≡ None → map.insert m k v ≡ m → ⊥
-  insert_differs m k v none e = none_some v (sym none ∙ (sym (ap (λ (n : FinMap R X). map.get n k) e) ∙ get-insert_at o same m k v))
+  pub insert_differs : (m : FinMap R X) (k : K) (v : X) → map.get m k ≡ None → map.insert m k v ≡ m
+      → ⊥
+  insert_differs m k v none e = none_some v (sym none
+      ∙ (sym (ap (λ (n : FinMap R X). map.get n k) e) ∙ get-insert_at o same m k v))
 
-  pub insert_other : (m : FinMap R X) (k : K) (v x : X) → map.get m k ≡ Some x → (v ≡ x → ⊥) → map.insert m k v ≡ m → ⊥
-  insert_other m k v x found ne e = ne (some_same v x (sym (get-insert_at o same m k v) ∙ (ap (λ (n : FinMap R X). map.get n k) e ∙ found)))
+  pub insert_other : (m : FinMap R X) (k : K) (v x : X) → map.get m k ≡ Some x → (v ≡ x → ⊥)
+      → map.insert m k v ≡ m → ⊥
+  insert_other m k v x found ne e = ne (some_same v x (sym (get-insert_at o same m k v)
+      ∙ (ap (λ (n : FinMap R X). map.get n k) e ∙ found)))
 
-  pub remove_differs : (m : FinMap R X) (k : K) (x : X) → map.get m k ≡ Some x → map.remove m k ≡ m → ⊥
-  remove_differs m k x found e = none_some x (sym (get-remove_at o same m k) ∙ (ap (λ (n : FinMap R X). map.get n k) e ∙ found))
+  pub remove_differs : (m : FinMap R X) (k : K) (x : X) → map.get m k ≡ Some x → map.remove m k ≡ m
+      → ⊥
+  remove_differs m k x found e = none_some x (sym (get-remove_at o same m k)
+      ∙ (ap (λ (n : FinMap R X). map.get n k) e ∙ found))
 
-  pub update_differs : (m : FinMap R X) (k : K) (f : X → X) (x : X) → map.get m k ≡ Some x → (f x ≡ x → ⊥) → update_at m k f ≡ m → ⊥
-  update_differs m k f x found ne e = ne (some_same (f x) x (sym (get-update_at o same m k f x found) ∙ (ap (λ (n : FinMap R X). map.get n k) e ∙ found)))
+  pub update_differs : (m : FinMap R X) (k : K) (f : X → X) (x : X) → map.get m k ≡ Some x
+      → (f x ≡ x → ⊥) → update_at m k f ≡ m → ⊥
+  update_differs m k f x found ne e = ne (some_same (f x) x (sym
+      (get-update_at o same m k f x found) ∙ (ap (λ (n : FinMap R X). map.get n k) e ∙ found)))
 
 -- ---- rows that are as before
-rows_same : (t u : Configuration) (touched : Touched) → u.settings.subsystems ≡ t.settings.subsystems → u.settings.ports ≡ t.settings.ports → OneRow t u touched
+rows_same : (t u : Configuration) (touched : Touched) → u.settings.subsystems
+    ≡ t.settings.subsystems → u.settings.ports ≡ t.settings.ports → OneRow t u touched
 rows_same t u touched subs ports = record {
   spaces = λ a j. inl (ap (λ (m : Rows). placed m a j) subs);
   subsystems = λ a. inl (ap (λ (m : Rows). subsystem_front (map.get m a)) subs);
@@ -49,14 +58,20 @@ rows_same t u touched subs ports = record {
 }
 
 -- of one key, what is of the row
-moved_to : {K X : Type 0} {R : K → K → Ordering} (m w : FinMap R X) (k q : K) (x : X) → OneOf (map.get m k) (map.get w k) x → q ≡ k → OneOf (map.get m q) (map.get w q) x
+moved_to : {K X : Type 0} {R : K → K → Ordering} (m w : FinMap R X) (k q : K) (x : X)
+    → OneOf (map.get m k) (map.get w k) x → q ≡ k → OneOf (map.get m q) (map.get w q) x
 moved_to m w k q x one is = ⊎_elim
     (λ e. inl (ap (λ y. map.get m y) is ∙ e))
     (λ e. inr (ap (λ y. map.get w y) is ∙ e))
     one
 
 -- a subsystem is made, removed or changed beside its namespaces
-subsystem_row : (t u : Configuration) (sub : List ℕ) (s : SubsystemRow) → u.settings.ports ≡ t.settings.ports → ((a : List ℕ) (j : ℕ) → placed u.settings.subsystems a j ≡ placed t.settings.subsystems a j) → OneOf (map.get t.settings.subsystems sub) (map.get u.settings.subsystems sub) s → ((a : List ℕ) → (a ≡ sub → ⊥) → map.get u.settings.subsystems a ≡ map.get t.settings.subsystems a) → OneRow t u (touches.Subsystem s.at)
+subsystem_row : (t u : Configuration) (sub : List ℕ) (s : SubsystemRow)
+    → u.settings.ports ≡ t.settings.ports → ((a : List ℕ) (j : ℕ)
+    → placed u.settings.subsystems a j ≡ placed t.settings.subsystems a j)
+    → OneOf (map.get t.settings.subsystems sub) (map.get u.settings.subsystems sub) s
+    → ((a : List ℕ) → (a ≡ sub → ⊥) → map.get u.settings.subsystems a
+    ≡ map.get t.settings.subsystems a) → OneRow t u (touches.Subsystem s.at)
 subsystem_row t u sub s ports same one beside = record {
   spaces = λ a j. inl (same a j);
   subsystems = λ a. ⊎_elim
@@ -68,7 +83,9 @@ subsystem_row t u sub s ports same one beside = record {
 }
 
 -- a namespace is made, removed or changed
-space_row : (t u : Configuration) (sub : List ℕ) (nsid : ℕ) (o v : Option Placed) (x : Placed) → u.settings.ports ≡ t.settings.ports → OneSlot t.settings.subsystems u.settings.subsystems sub nsid o v → OneOf o v x → OneRow t u (touches.Namespace x.at nsid)
+space_row : (t u : Configuration) (sub : List ℕ) (nsid : ℕ) (o v : Option Placed) (x : Placed)
+    → u.settings.ports ≡ t.settings.ports → OneSlot t.settings.subsystems u.settings.subsystems sub
+    nsid o v → OneOf o v x → OneRow t u (touches.Namespace x.at nsid)
 space_row t u sub nsid o v x ports one is = record {
   spaces = λ a j. there a j (cases_slot sub nsid a j);
   subsystems = λ a. inl (one.fronts a);
@@ -81,15 +98,28 @@ space_row t u sub nsid o v x ports one is = record {
   w : Rows
   w = u.settings.subsystems
 
-  to_slot : (r : Rows) (q : Option Placed) (a : List ℕ) (j : ℕ) → placed r sub nsid ≡ q → a ≡ sub → j ≡ nsid → placed r a j ≡ q
-  to_slot r q a j e f g = ap (λ (b : List ℕ). placed r b j) f ∙ (ap (λ (i : ℕ). placed r sub i) g ∙ e)
+  to_slot : (r : Rows) (q : Option Placed) (a : List ℕ) (j : ℕ) → placed r sub nsid ≡ q → a ≡ sub
+      → j ≡ nsid → placed r a j ≡ q
+  to_slot r q a j e f g = ap (λ (b : List ℕ). placed r b j) f
+      ∙ (ap (λ (i : ℕ). placed r sub i) g ∙ e)
 
-  there : (a : List ℕ) (j : ℕ) → Slot sub nsid a j → (placed w a j ≡ placed m a j) ⊎ ((y : Placed) × OneOf (placed m a j) (placed w a j) y × (touches.Namespace x.at nsid ≡ touches.Namespace y.at j))
+  there : (a : List ℕ) (j : ℕ) → Slot sub nsid a j → (placed w a j ≡ placed m a j)
+      ⊎ ((y : Placed) × OneOf (placed m a j) (placed w a j) y
+      × (touches.Namespace x.at nsid ≡ touches.Namespace y.at j))
   there a j (no_slot ne) = inl (one.others a j ne)
-  there a j (is_slot f g) = inr (x, ⊎_elim (λ e. inl (to_slot m o a j one.before f g ∙ e)) (λ e. inr (to_slot w v a j one.after f g ∙ e)) is, ap (λ (i : ℕ). touches.Namespace x.at i) (sym g))
+  there a j (is_slot f g) = inr (
+    x,
+    ⊎_elim (λ e. inl (to_slot m o a j one.before f g
+        ∙ e)) (λ e. inr (to_slot w v a j one.after f g ∙ e)) is,
+    ap (λ (i : ℕ). touches.Namespace x.at i) (sym g),
+  )
 
 -- a port is made, removed or changed beside its ANA groups
-port_row : (t u : Configuration) (id : ℕ) (p : PortRow) → u.settings.subsystems ≡ t.settings.subsystems → OneOf (map.get t.settings.ports id) (map.get u.settings.ports id) p → ((k : ℕ) → (k ≡ id → ⊥) → map.get u.settings.ports k ≡ map.get t.settings.ports k) → ((j : ℕ) → (j ≡ 1 → ⊥) → group_in (map.get u.settings.ports id) j ≡ group_in (map.get t.settings.ports id) j) → OneRow t u (touches.Port p.at)
+port_row : (t u : Configuration) (id : ℕ) (p : PortRow) → u.settings.subsystems
+    ≡ t.settings.subsystems → OneOf (map.get t.settings.ports id) (map.get u.settings.ports id) p
+    → ((k : ℕ) → (k ≡ id → ⊥) → map.get u.settings.ports k ≡ map.get t.settings.ports k)
+    → ((j : ℕ) → (j ≡ 1 → ⊥) → group_in (map.get u.settings.ports id) j
+    ≡ group_in (map.get t.settings.ports id) j) → OneRow t u (touches.Port p.at)
 port_row t u id p subs one beside others = record {
   spaces = λ a j. inl (ap (λ (m : Rows). placed m a j) subs);
   subsystems = λ a. inl (ap (λ (m : Rows). subsystem_front (map.get m a)) subs);
@@ -99,33 +129,54 @@ port_row t u id p subs one beside others = record {
       (cases_key nat_cmp_total nat_cmp-IsAntisymmetric k id);
   groups = λ k group. ⊎_elim
       (λ is. ⊎_elim
-      (λ first. inr (p, moved_to t.settings.ports u.settings.ports id k p one is, inr (refl, first)))
-      (λ ne. inl (ap (λ (y : ℕ). group_in (map.get u.settings.ports y) group) is ∙ (others group ne ∙ ap (λ (y : ℕ). group_in (map.get t.settings.ports y) group) (sym is))))
+      (λ first. inr (
+        p,
+        moved_to t.settings.ports u.settings.ports id k p one is,
+        inr (refl, first),
+      ))
+      (λ ne. inl (ap (λ (y : ℕ). group_in (map.get u.settings.ports y) group) is
+      ∙ (others group ne ∙ ap (λ (y : ℕ). group_in (map.get t.settings.ports y) group)
+      (sym is))))
       (cases_key nat_cmp_total nat_cmp-IsAntisymmetric group 1))
       (λ ne. inl (ap (λ (o : Option PortRow). group_in o group) (beside k ne)))
       (cases_key nat_cmp_total nat_cmp-IsAntisymmetric k id);
 }
 
 -- an ANA group is made, removed or changed
-group_row : (t u : Configuration) (id group : ℕ) (p q : PortRow) → u.settings.subsystems ≡ t.settings.subsystems → map.get t.settings.ports id ≡ Some p → map.get u.settings.ports id ≡ Some q → port_front (Some q) ≡ port_front (Some p) → ((j : ℕ) → (j ≡ group → ⊥) → map.get q.groups j ≡ map.get p.groups j) → ((k : ℕ) → (k ≡ id → ⊥) → map.get u.settings.ports k ≡ map.get t.settings.ports k) → OneRow t u (touches.Group p.at group)
+group_row : (t u : Configuration) (id group : ℕ) (p q : PortRow)
+    → u.settings.subsystems ≡ t.settings.subsystems → map.get t.settings.ports id ≡ Some p
+    → map.get u.settings.ports id ≡ Some q → port_front (Some q) ≡ port_front (Some p)
+    → ((j : ℕ) → (j ≡ group → ⊥) → map.get q.groups j ≡ map.get p.groups j)
+    → ((k : ℕ) → (k ≡ id → ⊥) → map.get u.settings.ports k ≡ map.get t.settings.ports k)
+    → OneRow t u (touches.Group p.at group)
 group_row t u id group p q subs e f front others beside = record {
   spaces = λ a j. inl (ap (λ (m : Rows). placed m a j) subs);
   subsystems = λ a. inl (ap (λ (m : Rows). subsystem_front (map.get m a)) subs);
   ports = λ k. ⊎_elim
-      (λ is. inl (ap (λ (y : ℕ). port_front (map.get u.settings.ports y)) is ∙ (ap port_front f ∙ (front ∙ (ap port_front (sym e) ∙ ap (λ (y : ℕ). port_front (map.get t.settings.ports y)) (sym is))))))
+      (λ is. inl (ap (λ (y : ℕ). port_front (map.get u.settings.ports y)) is
+      ∙ (ap port_front f ∙ (front ∙ (ap port_front (sym e)
+      ∙ ap (λ (y : ℕ). port_front (map.get t.settings.ports y)) (sym is))))))
       (λ ne. inl (ap port_front (beside k ne)))
       (cases_key nat_cmp_total nat_cmp-IsAntisymmetric k id);
   groups = λ k j. ⊎_elim
       (λ is. ⊎_elim
-      (λ same. inr (p, inl (ap (λ (y : ℕ). map.get t.settings.ports y) is ∙ e), inl (ap (λ (y : ℕ). touches.Group p.at y) (sym same))))
-      (λ ne. inl (ap (λ (y : ℕ). group_in (map.get u.settings.ports y) j) is ∙ (ap (λ (o : Option PortRow). group_in o j) f ∙ (others j ne ∙ (ap (λ (o : Option PortRow). group_in o j) (sym e) ∙ ap (λ (y : ℕ). group_in (map.get t.settings.ports y) j) (sym is))))))
+      (λ same. inr (
+        p,
+        inl (ap (λ (y : ℕ). map.get t.settings.ports y) is ∙ e),
+        inl (ap (λ (y : ℕ). touches.Group p.at y) (sym same)),
+      ))
+      (λ ne. inl (ap (λ (y : ℕ). group_in (map.get u.settings.ports y) j) is
+      ∙ (ap (λ (o : Option PortRow). group_in o j) f ∙ (others j ne
+      ∙ (ap (λ (o : Option PortRow). group_in o j) (sym e)
+      ∙ ap (λ (y : ℕ). group_in (map.get t.settings.ports y) j) (sym is))))))
       (cases_key nat_cmp_total nat_cmp-IsAntisymmetric j group))
       (λ ne. inl (ap (λ (o : Option PortRow). group_in o j) (beside k ne)))
       (cases_key nat_cmp_total nat_cmp-IsAntisymmetric k id);
 }
 
 -- ---- nothing changes
-group_same : (m : Rows) (a : List ℕ) (j : ℕ) (x y : Placed) → placed m a j ≡ Some x → placed m a j ≡ Some y → y.row.group ≡ x.row.group
+group_same : (m : Rows) (a : List ℕ) (j : ℕ) (x y : Placed) → placed m a j ≡ Some x
+    → placed m a j ≡ Some y → y.row.group ≡ x.row.group
 group_same m a j x y e f = ap (λ (z : Placed). z.row.group) (some_same y x (sym f ∙ e))
 
 pub tells_nothing : (t : Configuration) → Tells t t nothing
@@ -145,15 +196,21 @@ tells_nothing t = record {
 
 -- ---- a row that raises nothing
 abbrev SamePorts : Ports → Ports → Type 0
-SamePorts m w = (id : ℕ) (p q : PortRow) → map.get m id ≡ Some p → map.get w id ≡ Some q → q.groups ≡ p.groups
+SamePorts m w = (id : ℕ) (p q : PortRow) → map.get m id ≡ Some p → map.get w id ≡ Some q
+    → q.groups ≡ p.groups
 
 abbrev SameGroups : Rows → Rows → Type 0
-SameGroups m w = (a : List ℕ) (j : ℕ) (x y : Placed) → placed m a j ≡ Some x → placed w a j ≡ Some y → y.row.group ≡ x.row.group
+SameGroups m w = (a : List ℕ) (j : ℕ) (x y : Placed) → placed m a j ≡ Some x → placed w a j ≡ Some y
+    → y.row.group ≡ x.row.group
 
 abbrev SameEnabled : Rows → Rows → Type 0
 SameEnabled m w = (a : List ℕ) (j : ℕ) → enabled_row (placed w a j) ≡ enabled_row (placed m a j)
 
-tells_touching : (t u : Configuration) (touched : Touched) → (u.settings ≡ t.settings → ⊥) → SameEnabled t.settings.subsystems u.settings.subsystems → SameGroups t.settings.subsystems u.settings.subsystems → SamePorts t.settings.ports u.settings.ports → u.settings.ana_count ≡ t.settings.ana_count → OneRow t u touched → Tells t u (touching touched)
+tells_touching : (t u : Configuration) (touched : Touched) → (u.settings ≡ t.settings → ⊥)
+    → SameEnabled t.settings.subsystems u.settings.subsystems
+    → SameGroups t.settings.subsystems u.settings.subsystems
+    → SamePorts t.settings.ports u.settings.ports → u.settings.ana_count ≡ t.settings.ana_count
+    → OneRow t u touched → Tells t u (touching touched)
 tells_touching t u touched differs on groups ports count rows = record {
   published = inl (refl, differs);
   spaces = λ a j. inl (on a j);
@@ -168,32 +225,62 @@ tells_touching t u touched differs on groups ports count rows = record {
   rows = rows;
 }
 
-pub hosts_tell : (t : Configuration) (settings : Settings) (touched : Touched) → settings.subsystems ≡ t.settings.subsystems → settings.ports ≡ t.settings.ports → settings.ana_count ≡ t.settings.ana_count → (settings.hosts ≡ t.settings.hosts → ⊥) → Tells t (record t { settings = settings }) (touching touched)
-hosts_tell t settings touched subs ports count differs = tells_touching t (record t { settings = settings }) touched (λ e. differs (ap (λ (s : Settings). s.hosts) e))
+pub hosts_tell : (t : Configuration) (settings : Settings) (touched : Touched)
+    → settings.subsystems ≡ t.settings.subsystems → settings.ports ≡ t.settings.ports
+    → settings.ana_count ≡ t.settings.ana_count → (settings.hosts ≡ t.settings.hosts → ⊥)
+    → Tells t (record t { settings = settings }) (touching touched)
+hosts_tell t settings touched subs ports count differs = tells_touching t (record t {
+  settings =
+      settings;
+}) touched (λ e. differs (ap (λ (s : Settings). s.hosts) e))
     (λ a j. ap (λ (m : Rows). enabled_row (placed m a j)) subs)
-    (λ a j x y e f. group_same t.settings.subsystems a j x y e (sym (ap (λ (m : Rows). placed m a j) subs) ∙ f))
-    (λ id p q e f. same_ports t.settings.ports id p q e (sym (ap (λ (m : Ports). map.get m id) ports) ∙ f))
+    (λ a j x y e f. group_same t.settings.subsystems a j x y e
+    (sym (ap (λ (m : Rows). placed m a j) subs) ∙ f))
+    (λ id p q e f. same_ports t.settings.ports id p q e (sym
+    (ap (λ (m : Ports). map.get m id) ports) ∙ f))
     count (rows_same t (record t { settings = settings }) touched subs ports)
 
 -- ---- subsystems and namespaces
 abbrev pub with_rows : Configuration → Rows → List DiskRow → ℕ → Configuration
-with_rows t w disks count = record { settings = record t.settings { subsystems = w; ana_count = count }; disks = disks }
+with_rows t w disks count = record {
+  settings = record t.settings {
+    subsystems = w;
+    ana_count =
+        count;
+  };
+  disks = disks;
+}
 
-pub rows_tell : (t : Configuration) (w : Rows) (sub : List ℕ) (s : SubsystemRow) → OneOf (map.get t.settings.subsystems sub) (map.get w sub) s → ((a : List ℕ) → (a ≡ sub → ⊥) → map.get w a ≡ map.get t.settings.subsystems a) → (w ≡ t.settings.subsystems → ⊥) → ((a : List ℕ) (j : ℕ) → placed w a j ≡ placed t.settings.subsystems a j) → Tells t (with_rows t w t.disks t.settings.ana_count) (touching (touches.Subsystem s.at))
-rows_tell t w sub s one beside differs same = tells_touching t (with_rows t w t.disks t.settings.ana_count) (touches.Subsystem s.at) (λ e. differs (ap (λ (s : Settings). s.subsystems) e))
+pub rows_tell : (t : Configuration) (w : Rows) (sub : List ℕ) (s : SubsystemRow)
+    → OneOf (map.get t.settings.subsystems sub) (map.get w sub) s
+    → ((a : List ℕ) → (a ≡ sub → ⊥) → map.get w a ≡ map.get t.settings.subsystems a)
+    → (w ≡ t.settings.subsystems → ⊥) → ((a : List ℕ) (j : ℕ)
+    → placed w a j ≡ placed t.settings.subsystems a j)
+    → Tells t (with_rows t w t.disks t.settings.ana_count) (touching (touches.Subsystem s.at))
+rows_tell t w sub s one beside differs same =
+    tells_touching t (with_rows t w t.disks t.settings.ana_count) (touches.Subsystem s.at)
+    (λ e. differs (ap (λ (s : Settings). s.subsystems) e))
     (λ a j. ap enabled_row (same a j))
     (λ a j x y e f. group_same t.settings.subsystems a j x y e (sym (same a j) ∙ f))
     (λ id p q e f. same_ports t.settings.ports id p q e f) refl
     (subsystem_row t (with_rows t w t.disks t.settings.ana_count) sub s refl same one beside)
 
-slot_differs : (t : Configuration) (w : Rows) (sub : List ℕ) (nsid : ℕ) (o v : Option Placed) → OneSlot t.settings.subsystems w sub nsid o v → (v ≡ o → ⊥) → w ≡ t.settings.subsystems → ⊥
-slot_differs t w sub nsid o v one ne e = ne (sym one.after ∙ (ap (λ (r : Rows). placed r sub nsid) e ∙ one.before))
+slot_differs : (t : Configuration) (w : Rows) (sub : List ℕ) (nsid : ℕ) (o v : Option Placed)
+    → OneSlot t.settings.subsystems w sub nsid o v → (v ≡ o → ⊥) → w ≡ t.settings.subsystems → ⊥
+slot_differs t w sub nsid o v one ne e = ne (sym one.after ∙ (ap (λ (r : Rows). placed r sub nsid) e
+    ∙ one.before))
 
-pub slot_tells : (t : Configuration) (w : Rows) (sub : List ℕ) (nsid : ℕ) (o v : Option Placed) (x : Placed) → OneOf o v x → OneSlot t.settings.subsystems w sub nsid o v → (v ≡ o → ⊥) → enabled_row v ≡ enabled_row o → ((x y : Placed) → o ≡ Some x → v ≡ Some y → y.row.group ≡ x.row.group) → Tells t (with_rows t w t.disks t.settings.ana_count) (touching (touches.Namespace x.at nsid))
-slot_tells t w sub nsid o v x is one ne on groups = tells_touching t (with_rows t w t.disks t.settings.ana_count) (touches.Namespace x.at nsid)
+pub slot_tells : (t : Configuration) (w : Rows) (sub : List ℕ) (nsid : ℕ) (o v : Option Placed)
+    (x : Placed) → OneOf o v x → OneSlot t.settings.subsystems w sub nsid o v → (v ≡ o → ⊥)
+    → enabled_row v ≡ enabled_row o → ((x y : Placed) → o ≡ Some x → v ≡ Some y
+    → y.row.group ≡ x.row.group) → Tells t (with_rows t w t.disks t.settings.ana_count)
+    (touching (touches.Namespace x.at nsid))
+slot_tells t w sub nsid o v x is one ne on groups =
+    tells_touching t (with_rows t w t.disks t.settings.ana_count) (touches.Namespace x.at nsid)
     (λ e. slot_differs t w sub nsid o v one ne (ap (λ (s : Settings). s.subsystems) e))
     (λ a j. slot_look t.settings.subsystems w sub nsid o v one enabled_row on a j)
-    (λ a j x y e f. slot_both t.settings.subsystems w sub nsid o v one (λ (p q : Placed). q.row.group ≡ p.row.group) (λ p. refl) groups a j x y e f)
+    (λ a j x y e f. slot_both t.settings.subsystems w sub nsid o v one
+    (λ (p q : Placed). q.row.group ≡ p.row.group) (λ p. refl) groups a j x y e f)
     (λ id p q e f. same_ports t.settings.ports id p q e f) refl
     (space_row t (with_rows t w t.disks t.settings.ana_count) sub nsid o v x refl one is)
 
@@ -202,7 +289,11 @@ not_itself true e = both_ways false refl e
 not_itself false e = both_ways true e refl
 
 -- a namespace gets enabled, or begins to drain
-pub turn_tells : (t : Configuration) (w : Rows) (disks : List DiskRow) (sub : List ℕ) (nsid at : ℕ) (n : NamespaceRow) (drains : Bool) → n.enabled ≡ drains → OneSlot t.settings.subsystems w sub nsid (Some (here at n)) (Some (here at (put_in (Enabled (not drains)) n))) → Tells t (with_rows t w disks t.settings.ana_count) (namespace_change at nsid drains)
+pub turn_tells : (t : Configuration) (w : Rows) (disks : List DiskRow) (sub : List ℕ) (nsid at : ℕ)
+    (n : NamespaceRow) (drains : Bool) → n.enabled ≡ drains
+    → OneSlot t.settings.subsystems w sub nsid (Some (here at n))
+    (Some (here at (put_in (Enabled (not drains)) n)))
+    → Tells t (with_rows t w disks t.settings.ana_count) (namespace_change at nsid drains)
 turn_tells t w disks sub nsid at n drains was one =
     let m = t.settings.subsystems in
     let x = here at n in
@@ -211,7 +302,8 @@ turn_tells t w disks sub nsid at n drains was one =
       published = inl (
         refl,
         λ e. slot_differs t w sub nsid (Some x) (Some y) one
-            (λ f. not_itself drains (ap (λ (z : Placed). z.row.enabled) (some_same y x f) ∙ was)) (ap (λ (s : Settings). s.subsystems) e),
+            (λ f. not_itself drains (ap (λ (z : Placed). z.row.enabled) (some_same y x f)
+            ∙ was)) (ap (λ (s : Settings). s.subsystems) e),
       );
       spaces = λ a j. named a j (cases_slot sub nsid a j);
       space_named = λ place j e.
@@ -230,23 +322,32 @@ turn_tells t w disks sub nsid at n drains was one =
       space_none = λ e. absurd (none_some (at, nsid) (sym e));
       ports = λ id p q e f. inl (same_ports t.settings.ports id p q e f);
       port_named = λ place e. absurd (none_some place e);
-      groups = λ a j p q e f. inl (slot_both m w sub nsid (Some x) (Some y) one (λ (p q : Placed). q.row.group ≡ p.row.group) (λ p. refl)
-          (λ p q e f. ap (λ (z : Placed). z.row.group) (sym (some_same y q f)) ∙ ap (λ (z : Placed). z.row.group) (some_same x p e)) a j p q e f);
+      groups = λ a j p q e f. inl (slot_both m w sub nsid (Some x) (Some y) one
+          (λ (p q : Placed). q.row.group ≡ p.row.group) (λ p. refl)
+          (λ p q e f. ap (λ (z : Placed). z.row.group) (sym (some_same y q f))
+          ∙ ap (λ (z : Placed). z.row.group) (some_same x p e)) a j p q e f);
       subsystem_named = λ place e. absurd (none_some place e);
       one = inl refl;
       count = refl;
-      rows = space_row t (with_rows t w disks t.settings.ana_count) sub nsid (Some x) (Some y) x refl one (inl refl);
+      rows = space_row t (with_rows t w disks t.settings.ana_count) sub nsid (Some x) (Some y) x
+          refl one (inl refl);
     } where
-      named : (a : List ℕ) (j : ℕ) → Slot sub nsid a j → (enabled_row (placed w a j) ≡ enabled_row (placed t.settings.subsystems a j)) ⊎ NamesSpace t (namespace_change at nsid drains) a j
+      named : (a : List ℕ) (j : ℕ) → Slot sub nsid a j → (enabled_row (placed w a j)
+          ≡ enabled_row (placed t.settings.subsystems a j))
+          ⊎ NamesSpace t (namespace_change at nsid drains) a j
       named a j (no_slot ne) = inl (ap enabled_row (one.others a j ne))
       named a j (is_slot e f) = inr (record {
         x = here at n;
-        stands = ap (λ (b : List ℕ). placed t.settings.subsystems b j) e ∙ (ap (λ (i : ℕ). placed t.settings.subsystems sub i) f ∙ one.before);
+        stands = ap (λ (b : List ℕ). placed t.settings.subsystems b j) e
+            ∙ (ap (λ (i : ℕ). placed t.settings.subsystems sub i) f ∙ one.before);
         told = ap (λ (i : ℕ). Some (at, i)) (sym f);
       })
 
 -- a namespace comes into another ANA group
-pub move_tells : (t : Configuration) (w : Rows) (sub : List ℕ) (nsid at : ℕ) (n : NamespaceRow) (group : ℕ) → (n.group ≡ group → ⊥) → OneSlot t.settings.subsystems w sub nsid (Some (here at n)) (Some (here at (put_in (Group group) n))) → Tells t (counted (with_rows t w t.disks t.settings.ana_count)) (group_change at nsid)
+pub move_tells : (t : Configuration) (w : Rows) (sub : List ℕ) (nsid at : ℕ) (n : NamespaceRow)
+    (group : ℕ) → (n.group ≡ group → ⊥) → OneSlot t.settings.subsystems w sub nsid
+    (Some (here at n)) (Some (here at (put_in (Group group) n)))
+    → Tells t (counted (with_rows t w t.disks t.settings.ana_count)) (group_change at nsid)
 move_tells t w sub nsid at n group ne one =
     let m = t.settings.subsystems in
     let x = here at n in
@@ -255,14 +356,16 @@ move_tells t w sub nsid at n group ne one =
       published = inl (
         refl,
         λ e. slot_differs t w sub nsid (Some x) (Some y) one
-            (λ f. ne (sym (ap (λ (z : Placed). z.row.group) (some_same y x f)))) (ap (λ (s : Settings). s.subsystems) e),
+            (λ f. ne (sym (ap (λ (z : Placed). z.row.group) (some_same y x f))))
+            (ap (λ (s : Settings). s.subsystems) e),
       );
       spaces = λ a j. inl (slot_look m w sub nsid (Some x) (Some y) one enabled_row refl a j);
       space_named = λ place j e. absurd (none_some (place, j) e);
       space_none = λ _. refl;
       ports = λ id p q e f. inl (same_ports t.settings.ports id p q e f);
       port_named = λ place e. absurd (none_some place e);
-      groups = λ a j p q e f. slot_both m w sub nsid (Some x) (Some y) one (λ (p q : Placed). (q.row.group ≡ p.row.group) ⊎ (Some at ≡ Some p.at)) (λ p. inl refl)
+      groups = λ a j p q e f. slot_both m w sub nsid (Some x) (Some y) one
+          (λ (p q : Placed). (q.row.group ≡ p.row.group) ⊎ (Some at ≡ Some p.at)) (λ p. inl refl)
           (λ p q e f. inr (ap (λ (z : Placed). Some z.at) (some_same x p e))) a j p q e f;
       subsystem_named = λ place e. record {
         sub = sub;
@@ -276,26 +379,41 @@ move_tells t w sub nsid at n group ne one =
       };
       one = inl refl;
       count = refl;
-      rows = space_row t (counted (with_rows t w t.disks t.settings.ana_count)) sub nsid (Some x) (Some y) x refl one (inl refl);
+      rows = space_row t (counted (with_rows t w t.disks t.settings.ana_count)) sub nsid (Some x)
+          (Some y) x refl one (inl refl);
     }
 
 -- ---- ports
 abbrev pub with_ports : Configuration → Ports → Configuration
 with_ports t w = record t { settings = record t.settings { ports = w } }
 
-pub ports_tell : (t : Configuration) (w : Ports) (id : ℕ) (p : PortRow) → OneOf (map.get t.settings.ports id) (map.get w id) p → ((k : ℕ) → (k ≡ id → ⊥) → map.get w k ≡ map.get t.settings.ports k) → ((j : ℕ) → (j ≡ 1 → ⊥) → group_in (map.get w id) j ≡ group_in (map.get t.settings.ports id) j) → (w ≡ t.settings.ports → ⊥) → SamePorts t.settings.ports w → Tells t (with_ports t w) (touching (touches.Port p.at))
-ports_tell t w id p one beside others differs same = tells_touching t (with_ports t w) (touches.Port p.at) (λ e. differs (ap (λ (s : Settings). s.ports) e))
+pub ports_tell : (t : Configuration) (w : Ports) (id : ℕ) (p : PortRow)
+    → OneOf (map.get t.settings.ports id) (map.get w id) p → ((k : ℕ) → (k ≡ id → ⊥) → map.get w k
+    ≡ map.get t.settings.ports k) → ((j : ℕ) → (j ≡ 1 → ⊥) → group_in (map.get w id) j
+    ≡ group_in (map.get t.settings.ports id) j) → (w ≡ t.settings.ports → ⊥)
+    → SamePorts t.settings.ports w → Tells t (with_ports t w) (touching (touches.Port p.at))
+ports_tell t w id p one beside others differs same =
+    tells_touching t (with_ports t w) (touches.Port p.at) (λ e. differs
+    (ap (λ (s : Settings). s.ports) e))
     (λ a j. refl)
     (λ a j x y e f. group_same t.settings.subsystems a j x y e f)
     same refl
     (port_row t (with_ports t w) id p refl one beside others)
 
 -- ANA groups of a port differ
-pub port_tells : (t : Configuration) (id group : ℕ) (f : PortRow → PortRow) (r : PortRow) → map.get t.settings.ports id ≡ Some r → ((f r).groups ≡ r.groups → ⊥) → port_front (Some (f r)) ≡ port_front (Some r) → ((j : ℕ) → (j ≡ group → ⊥) → map.get (f r).groups j ≡ map.get r.groups j) → Tells t (counted (on_port t id f)) (port_change r.at group)
+pub port_tells : (t : Configuration) (id group : ℕ) (f : PortRow → PortRow) (r : PortRow)
+    → map.get t.settings.ports id ≡ Some r → ((f r).groups ≡ r.groups → ⊥)
+    → port_front (Some (f r)) ≡ port_front (Some r) → ((j : ℕ) → (j ≡ group → ⊥)
+    → map.get (f r).groups j ≡ map.get r.groups j)
+    → Tells t (counted (on_port t id f)) (port_change r.at group)
 port_tells t id group f r e ne front others =
     let m = t.settings.ports in
     record {
-      published = inl (refl, λ g. update_differs nat_cmp_total nat_cmp-IsAntisymmetric m id f r e (λ h. ne (ap (λ (p : PortRow). p.groups) h)) (ap (λ (s : Settings). s.ports) g));
+      published = inl (
+        refl,
+        λ g. update_differs nat_cmp_total nat_cmp-IsAntisymmetric m id f r e
+            (λ h. ne (ap (λ (p : PortRow). p.groups) h)) (ap (λ (s : Settings). s.ports) g),
+      );
       spaces = λ a j. inl refl;
       space_named = λ at nsid g. absurd (none_some (at, nsid) g);
       space_none = λ _. refl;
@@ -313,6 +431,7 @@ port_tells t id group f r e ne front others =
       subsystem_named = λ at g. absurd (none_some at g);
       one = inr refl;
       count = refl;
-      rows = group_row t (counted (on_port t id f)) id group r (f r) refl e (get-update_at nat_cmp_total nat_cmp-IsAntisymmetric m id f r e) front others
+      rows = group_row t (counted (on_port t id f)) id group r (f r) refl e
+          (get-update_at nat_cmp_total nat_cmp-IsAntisymmetric m id f r e) front others
           (λ k other. get-update_beside nat_cmp_total nat_cmp-IsAntisymmetric m id f k other);
     }

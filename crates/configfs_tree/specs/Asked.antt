@@ -35,10 +35,12 @@ path_is_held t n = is_held t.disks n.device_path
 
 -- ---- links and attached controllers
 abbrev pub some_port_links : Configuration → List ℕ → Bool
-some_port_links t sub = list_any (λ (p : PortRow). map.contains_key p.links sub) (map.values t.settings.ports)
+some_port_links t sub = list_any (λ (p : PortRow). map.contains_key p.links sub)
+    (map.values t.settings.ports)
 
 abbrev pub some_subsystem_allows : Configuration → List ℕ → Bool
-some_subsystem_allows t host = list_any (λ (s : SubsystemRow). map.contains_key s.allowed_hosts host) (map.values t.settings.subsystems)
+some_subsystem_allows t host = list_any (λ (s : SubsystemRow). map.contains_key s.allowed_hosts
+    host) (map.values t.settings.subsystems)
 
 abbrev pub controller_at_subsystem : Configuration → SubsystemRow → Bool
 controller_at_subsystem t s = nat_lt 0 (slice_index t.settings.attached.subsystems s.at)
@@ -48,7 +50,8 @@ controller_at_port t p = nat_lt 0 (slice_index t.settings.attached.ports p.at)
 
 -- ---- positions
 abbrev pub subsystem_place_taken : Configuration → ℕ → Bool
-subsystem_place_taken t at = list_any (λ (s : SubsystemRow). s.at == at) (map.values t.settings.subsystems)
+subsystem_place_taken t at = list_any (λ (s : SubsystemRow). s.at == at)
+    (map.values t.settings.subsystems)
 
 abbrev pub port_place_taken : Configuration → ℕ → Bool
 port_place_taken t at = list_any (λ (p : PortRow). p.at == at) (map.values t.settings.ports)

@@ -1,4 +1,5 @@
--- What a call that makes an edit answers and leaves: a refusal and want of memory leave the tree as it was.
+-- What a call that makes an edit answers and leaves: a refusal and want of memory leave the tree as
+-- it was.
 use Rattle.std.specs.Prelude.{◌≡◌, Bool, false, IsTrue, Result, Ok, Err}
 use Rattle.configfs_tree.specs.declared.edits.Change.{Change}
 use Rattle.configfs_tree.specs.declared.edits.Refused.{Refused}
@@ -12,11 +13,13 @@ abbrev pub is_made : Outcome → Bool
 is_made (Refuses errno) = false
 is_made (Accepts u change) = change.published
 
--- want of memory comes only of a kind of edit that grows something, where the table accepts it and something changes
+-- want of memory comes only of a kind of edit that grows something, where the table accepts it and
+-- something changes
 abbrev pub Gives : Bool → Outcome → Configuration → Result Change Refused → Configuration → Type 0
 Gives grows outcome old (Ok change) new = outcome ≡ Accepts new change
 Gives grows outcome old (Err (refused.Errno errno)) new = (outcome ≡ Refuses errno) × (new ≡ old)
-Gives grows outcome old (Err refused.Memory) new = (new ≡ old) × IsTrue grows × IsTrue (is_made outcome)
+Gives grows outcome old (Err refused.Memory) new = (new ≡ old) × IsTrue grows
+    × IsTrue (is_made outcome)
 
 -- the same of an edit that takes no memory
 abbrev pub GivesErrno : Outcome → Configuration → Result Change Errno → Configuration → Type 0

@@ -28,16 +28,21 @@ port_place (Some p) = Some p.at
 
 -- the position of the subsystem of a name; a text that isn't an NQN names none
 abbrev pub place_named : Configuration → List ℕ → Option ℕ
-place_named t name = if is_nqn name then subsystem_place (map.get t.settings.subsystems name) else None
+place_named t name = if is_nqn name then subsystem_place (map.get t.settings.subsystems name) else
+    None
 
 -- a name leads to the row at its position, and a position to the row of its name
 pub record SubsystemPositions (t : Configuration) : Type 0 where
-  pub of_name : (sub : List ℕ) (s : SubsystemRow) → map.get t.settings.subsystems sub ≡ Some s → subsystem_row t s.at ≡ Some s
-  pub of_position : (at : ℕ) (s : SubsystemRow) → subsystem_row t at ≡ Some s → map.get t.settings.subsystems s.nqn ≡ Some s
+  pub of_name : (sub : List ℕ) (s : SubsystemRow) → map.get t.settings.subsystems sub ≡ Some s
+      → subsystem_row t s.at ≡ Some s
+  pub of_position : (at : ℕ) (s : SubsystemRow) → subsystem_row t at ≡ Some s
+      → map.get t.settings.subsystems s.nqn ≡ Some s
 
 pub record PortPositions (t : Configuration) : Type 0 where
-  pub of_id : (id : ℕ) (p : PortRow) → map.get t.settings.ports id ≡ Some p → port_row t p.at ≡ Some p
-  pub of_position : (at : ℕ) (p : PortRow) → port_row t at ≡ Some p → map.get t.settings.ports p.id ≡ Some p
+  pub of_id : (id : ℕ) (p : PortRow) → map.get t.settings.ports id ≡ Some p
+      → port_row t p.at ≡ Some p
+  pub of_position : (at : ℕ) (p : PortRow) → port_row t at ≡ Some p
+      → map.get t.settings.ports p.id ≡ Some p
 
 -- ---- links
 abbrev pub allowed_in : Configuration → List ℕ → Bool → Option SubsystemRow → Configuration

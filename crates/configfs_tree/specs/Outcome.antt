@@ -25,14 +25,25 @@ first_of (row ∷ rows) accepted = if row.0 then Refuses row.1 else first_of row
 
 -- ---- what an accepted edit changes
 abbrev pub nothing : Change
-nothing = record { published = false; namespace = None; ana_port = None; ana_subsystem = None; drains = false; touched = touches.Nothing }
+nothing = record {
+  published = false;
+  namespace = None;
+  ana_port = None;
+  ana_subsystem = None;
+  drains = false;
+  touched = touches.Nothing;
+}
 
 abbrev pub touching : Touched → Change
 touching touched = record nothing { published = true; touched = touched }
 
 -- a namespace change: it gets enabled, or it begins to drain
 abbrev pub namespace_change : ℕ → ℕ → Bool → Change
-namespace_change at nsid drains = record (touching (touches.Namespace at nsid)) { namespace = Some (at, nsid); drains = drains }
+namespace_change at nsid drains = record (touching (touches.Namespace at nsid)) {
+  namespace =
+      Some (at, nsid);
+  drains = drains;
+}
 
 -- an ANA change of the port at a position
 abbrev pub port_change : ℕ → ℕ → Change
@@ -55,14 +66,20 @@ abbrev pub with_settings : Configuration → Settings → Configuration
 with_settings t settings = record t { settings = settings }
 
 abbrev pub on_subsystem : Configuration → List ℕ → (SubsystemRow → SubsystemRow) → Configuration
-on_subsystem t sub f = with_settings t (record t.settings { subsystems = update_at t.settings.subsystems sub f })
+on_subsystem t sub f = with_settings t (record t.settings {
+  subsystems =
+      update_at t.settings.subsystems sub f;
+})
 
 abbrev pub on_port : Configuration → ℕ → (PortRow → PortRow) → Configuration
 on_port t id f = with_settings t (record t.settings { ports = update_at t.settings.ports id f })
 
 -- one more ANA change; the count stands still at the last number of 64 bits
 abbrev pub counted : Configuration → Configuration
-counted t = with_settings t (record t.settings { ana_count = min (t.settings.ana_count + 1) (2 ^ 64 - 1) })
+counted t = with_settings t (record t.settings {
+  ana_count =
+      min (t.settings.ana_count + 1) (2 ^ 64 - 1);
+})
 
 -- ---- a folder that must be there
 unfoldable pub if_subsystem : Option SubsystemRow → (SubsystemRow → Outcome) → Outcome
@@ -84,8 +101,10 @@ if_group (Some state) outcome = outcome state
 abbrev pub in_subsystem : Configuration → List ℕ → (SubsystemRow → Outcome) → Outcome
 in_subsystem t sub outcome = if_subsystem (map.get t.settings.subsystems sub) outcome
 
-abbrev pub in_namespace : Configuration → List ℕ → ℕ → (SubsystemRow → NamespaceRow → Outcome) → Outcome
-in_namespace t sub nsid outcome = in_subsystem t sub (λ s. if_namespace (map.get s.namespaces nsid) (outcome s))
+abbrev pub in_namespace : Configuration → List ℕ → ℕ → (SubsystemRow → NamespaceRow → Outcome)
+    → Outcome
+in_namespace t sub nsid outcome = in_subsystem t sub (λ s. if_namespace (map.get s.namespaces nsid)
+    (outcome s))
 
 abbrev pub in_port : Configuration → ℕ → (PortRow → Outcome) → Outcome
 in_port t id outcome = if_port (map.get t.settings.ports id) outcome

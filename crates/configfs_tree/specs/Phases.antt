@@ -1,4 +1,7 @@
--- The phase of a namespace: enabled, or draining from the edit that disables it to the end of its drain, or off. A life begins where it gets enabled and ends with its drain. While the life lasts the namespace holds the disk of its path, and no other namespace does, so the disk tells the life.
+-- The phase of a namespace: enabled, or draining from the edit that disables it to the end of its
+-- drain, or off. A life begins where it gets enabled and ends with its drain. While the life lasts
+-- the namespace holds the disk of its path, and no other namespace does, so the disk tells the
+-- life.
 use Rattle.std.specs.Prelude.{ℕ, Bool, true, false, List, Option, Some, None}
 use Rattle.std.specs.FinMap as map
 use Rattle.configfs_rows.specs.Holders.{holds_path}

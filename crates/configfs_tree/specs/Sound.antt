@@ -1,4 +1,5 @@
--- What stands of the rows of a configuration: their names, numbers and texts, where their links lead, and the numbers of disks.
+-- What stands of the rows of a configuration: their names, numbers and texts, where their links
+-- lead, and the numbers of disks.
 use Rattle.std.specs.Prelude.{◌≡◌, ◌≤◌, ◌==◌, ◌&&◌, ◌||◌, ℕ, nat_lt, Bool, true, false, List, length, codes, Option, Some, None, IsTrue}
 use Rattle.std.specs.Str.{bytes_eq}
 use Rattle.std.specs.FinMap as map
@@ -35,7 +36,8 @@ abbrev pub Hosts : Type 0
 Hosts = FinMap name_order (Unit {0})
 
 -- a subsystem of this name, in a tree with these hosts
-pub record SubsystemStands (hosts : Hosts) (paths : List (List ℕ)) (sub : List ℕ) (s : SubsystemRow) : Type 0 where
+pub record SubsystemStands (hosts : Hosts) (paths : List (List ℕ)) (sub : List ℕ) (s : SubsystemRow)
+    : Type 0 where
   pub nqn : IsTrue (is_nqn sub)
   pub not_discovery : bytes_eq sub discovery_nqn ≡ false
   pub serial : IsTrue (is_short s.serial SERIAL_LEN)
@@ -43,8 +45,10 @@ pub record SubsystemStands (hosts : Hosts) (paths : List (List ℕ)) (sub : List
   -- one that allows any host has no list of hosts
   pub any_host : IsTrue s.allow_any_host → map.len s.allowed_hosts ≡ 0
   -- each host that it allows is there
-  pub allowed : (host : List ℕ) → IsTrue (map.contains_key s.allowed_hosts host) → IsTrue (map.contains_key hosts host)
-  pub namespaces : (nsid : ℕ) (n : NamespaceRow) → map.get s.namespaces nsid ≡ Some n → NamespaceStands paths nsid n
+  pub allowed : (host : List ℕ) → IsTrue (map.contains_key s.allowed_hosts host)
+      → IsTrue (map.contains_key hosts host)
+  pub namespaces : (nsid : ℕ) (n : NamespaceRow) → map.get s.namespaces nsid ≡ Some n
+      → NamespaceStands paths nsid n
 
 -- what an address of a port may be; the transport type is empty until it is set
 abbrev pub is_address : Address → List ℕ → Bool
@@ -58,18 +62,23 @@ is_address Treq value = is_treq value
 pub record PortStands (subsystems : FinMap name_order SubsystemRow) (p : PortRow) : Type 0 where
   pub addresses : (a : Address) → IsTrue (is_address a (address_of a p))
   pub group_low : (group : ℕ) (state : Ana) → map.get p.groups group ≡ Some state → 1 ≤ group
-  pub group_high : (group : ℕ) (state : Ana) → map.get p.groups group ≡ Some state → group ≤ MAX_ANA_GROUPS
+  pub group_high : (group : ℕ) (state : Ana) → map.get p.groups group ≡ Some state
+      → group ≤ MAX_ANA_GROUPS
   -- each subsystem that it links is there, and a port that links one has the transport type loop
-  pub links : (sub : List ℕ) → IsTrue (map.contains_key p.links sub) → IsTrue (map.contains_key subsystems sub)
+  pub links : (sub : List ℕ) → IsTrue (map.contains_key p.links sub)
+      → IsTrue (map.contains_key subsystems sub)
   pub loop : (sub : List ℕ) → IsTrue (map.contains_key p.links sub) → p.trtype ≡ codes "loop"
 
 abbrev pub EachSubsystem : Hosts → List (List ℕ) → FinMap name_order SubsystemRow → Type 0
-EachSubsystem hosts paths m = (sub : List ℕ) (s : SubsystemRow) → map.get m sub ≡ Some s → SubsystemStands hosts paths sub s
+EachSubsystem hosts paths m = (sub : List ℕ) (s : SubsystemRow) → map.get m sub ≡ Some s
+    → SubsystemStands hosts paths sub s
 
 pub record IsSound (t : Configuration) : Type 0 where
   pub few_hosts : map.len t.settings.hosts ≤ MAX_HOSTS
-  pub hosts : (host : List ℕ) → IsTrue (map.contains_key t.settings.hosts host) → IsTrue (is_nqn host)
+  pub hosts : (host : List ℕ) → IsTrue (map.contains_key t.settings.hosts host)
+      → IsTrue (is_nqn host)
   pub few_disks : length t.disks ≤ MAX_DISKS
   pub disks_apart : IsTrue (are_apart (paths_of t.disks))
   pub subsystems : EachSubsystem t.settings.hosts (paths_of t.disks) t.settings.subsystems
-  pub ports : (id : ℕ) (p : PortRow) → map.get t.settings.ports id ≡ Some p → PortStands t.settings.subsystems p
+  pub ports : (id : ℕ) (p : PortRow) → map.get t.settings.ports id ≡ Some p
+      → PortStands t.settings.subsystems p

@@ -42,9 +42,11 @@ pub record IsHeldBy (look : List ℕ → ℕ → Option Placed) (path : List ℕ
 -- disks are held exactly where a namespace that is enabled or draining has their path
 pub record HasHolders (look : List ℕ → ℕ → Option Placed) (disks : List DiskRow) : Type 0 where
   -- an enabled namespace holds the disk of its path
-  pub enabled_holds : (sub : List ℕ) (nsid : ℕ) (x : Placed) → look sub nsid ≡ Some x → IsTrue x.row.enabled → IsTrue (holds_path disks x.at nsid x.row.device_path)
+  pub enabled_holds : (sub : List ℕ) (nsid : ℕ) (x : Placed) → look sub nsid ≡ Some x
+      → IsTrue x.row.enabled → IsTrue (holds_path disks x.at nsid x.row.device_path)
   -- who holds a disk is a namespace with its path
-  pub holder_stands : (path : List ℕ) (d : DiskRow) (h : Holder) → disk_of path disks ≡ Some d → d.holder ≡ Some h → IsHeldBy look path h
+  pub holder_stands : (path : List ℕ) (d : DiskRow) (h : Holder) → disk_of path disks ≡ Some d
+      → d.holder ≡ Some h → IsHeldBy look path h
 
 abbrev pub SubsystemPlaces : FinMap name_order SubsystemRow → Type 0
 SubsystemPlaces m = HasPlaces (λ s. s.nqn) (λ s. s.at) MAX_SUBSYSTEMS m
@@ -54,7 +56,8 @@ pub record IsPlaced (t : Configuration) : Type 0 where
   pub subsystems : SubsystemPlaces t.settings.subsystems
   pub ports : HasPlaces (λ (p : PortRow). p.id) (λ (p : PortRow). p.at) MAX_PORTS t.settings.ports
   -- group 1 of a port is there
-  pub group_one : (id : ℕ) (p : PortRow) → map.get t.settings.ports id ≡ Some p → IsTrue (map.contains_key p.groups 1)
+  pub group_one : (id : ℕ) (p : PortRow) → map.get t.settings.ports id ≡ Some p
+      → IsTrue (map.contains_key p.groups 1)
   pub holders : HasHolders (placed t.settings.subsystems) t.disks
 
 pub record IsStanding (t : Configuration) : Type 0 where
@@ -79,7 +82,8 @@ pub record HoldsDisk (t : Configuration) (nsid : ℕ) (x : Placed) : Type 0 wher
   pub holder_nsid : holder.nsid ≡ nsid
 
 abbrev pub LiveHoldsDisk : Configuration → List ℕ → ℕ → Type 0
-LiveHoldsDisk t sub nsid = (x : Placed) → placed t.settings.subsystems sub nsid ≡ Some x → IsTrue (is_live t.disks nsid x) → HoldsDisk t nsid x
+LiveHoldsDisk t sub nsid = (x : Placed) → placed t.settings.subsystems sub nsid ≡ Some x
+    → IsTrue (is_live t.disks nsid x) → HoldsDisk t nsid x
 
 -- another namespace that is enabled or draining has this path
 pub record AnotherHas (t : Configuration) (path : List ℕ) (sub : List ℕ) (nsid : ℕ) : Type 0 where
@@ -93,5 +97,6 @@ pub record AnotherHas (t : Configuration) (path : List ℕ) (sub : List ℕ) (ns
 
 -- of a namespace that is off: the disk of its path is held exactly where another has the path
 abbrev pub HeldMeansAnother : Configuration → List ℕ → ℕ → Type 0
-HeldMeansAnother t sub nsid = (x : Placed) (path : List ℕ) → placed t.settings.subsystems sub nsid ≡ Some x → x.row.device_path ≡ Some path → (IsTrue (is_live t.disks nsid x) → ⊥)
+HeldMeansAnother t sub nsid = (x : Placed) (path : List ℕ) → placed t.settings.subsystems sub nsid
+    ≡ Some x → x.row.device_path ≡ Some path → (IsTrue (is_live t.disks nsid x) → ⊥)
     → (IsTrue (is_held t.disks (Some path)) ↔ AnotherHas t path sub nsid)

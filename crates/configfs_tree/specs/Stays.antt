@@ -24,8 +24,10 @@ pub record PortAt (t : Configuration) (id : ℕ) (at : ℕ) : Type 0 where
   pub found : map.get t.settings.ports id ≡ Some row
   pub at_is : row.at ≡ at
 
--- no controller comes or goes, and where one is attached the subsystem and the port stay, at their positions
+-- no controller comes or goes, and where one is attached the subsystem and the port stay, at their
+-- positions
 pub record Stays (t u : Configuration) : Type 0 where
   pub attached : u.settings.attached ≡ t.settings.attached
-  pub subsystems : (sub : List ℕ) (at : ℕ) → is_subsystem_attached t at ≡ true → SubsystemAt t sub at → SubsystemAt u sub at
+  pub subsystems : (sub : List ℕ) (at : ℕ) → is_subsystem_attached t at ≡ true
+      → SubsystemAt t sub at → SubsystemAt u sub at
   pub ports : (id at : ℕ) → is_port_attached t at ≡ true → PortAt t id at → PortAt u id at

@@ -1,4 +1,6 @@
--- The table of edits on folders, in the table's order. Each edit is decided by the first of its rows, from the top, whose condition holds. If none holds it is accepted. A folder that must be there and isn't is ENOENT, before any row.
+-- The table of edits on folders, in the table's order. Each edit is decided by the first of its
+-- rows, from the top, whose condition holds. If none holds it is accepted. A folder that must be
+-- there and isn't is ENOENT, before any row.
 use Rattle.std.specs.Prelude.{ℕ, ◌==◌, ◌&&◌, ◌||◌, not, nat_lt, nat_le, Bool, true, false, List, [], ◌∷◌, length, codes, Option, Some, None}
 use Rattle.std.specs.Str.{bytes_eq}
 use Rattle.std.specs.FinMap as map
@@ -42,7 +44,10 @@ mkdir_host t host = first_of (
     (map.contains_key t.settings.hosts host, EEXIST)
     ∷ (not (nat_lt (map.len t.settings.hosts) MAX_HOSTS), ENOSPC)
     ∷ [])
-    (Accepts (with_settings t (record t.settings { hosts = map.insert t.settings.hosts host tt })) (touching touches.Nothing))
+    (Accepts (with_settings t (record t.settings {
+      hosts =
+          map.insert t.settings.hosts host tt;
+    })) (touching touches.Nothing))
 
 unfoldable pub mkdir_subsystem : Configuration → List ℕ → Outcome
 mkdir_subsystem t sub = first_of (
@@ -51,7 +56,11 @@ mkdir_subsystem t sub = first_of (
     ∷ (not (nat_lt (map.len t.settings.subsystems) MAX_SUBSYSTEMS), ENOSPC)
     ∷ [])
     (let at = lowest_free MAX_SUBSYSTEMS 0 (subsystem_place_taken t) in
-    Accepts (with_settings t (record t.settings { subsystems = map.insert t.settings.subsystems sub (fresh_subsystem sub at) })) (touching (touches.Subsystem at)))
+    Accepts (with_settings t (record t.settings {
+      subsystems =
+          map.insert t.settings.subsystems sub (fresh_subsystem sub at);
+    }))
+    (touching (touches.Subsystem at)))
 
 unfoldable pub mkdir_namespace : Configuration → List ℕ → ℕ → Outcome
 mkdir_namespace t sub nsid = in_subsystem t sub (λ s. first_of (
@@ -66,7 +75,10 @@ mkdir_port t id = first_of (
     ∷ (not (nat_lt (map.len t.settings.ports) MAX_PORTS), ENOSPC)
     ∷ [])
     (let at = lowest_free MAX_PORTS 0 (port_place_taken t) in
-    Accepts (with_settings t (record t.settings { ports = map.insert t.settings.ports id (fresh_port id at) })) (touching (touches.Port at)))
+    Accepts (with_settings t (record t.settings {
+      ports =
+          map.insert t.settings.ports id (fresh_port id at);
+    })) (touching (touches.Port at)))
 
 -- an ANA change of the port; the group is inaccessible, as it was before it was made
 unfoldable pub mkdir_ana_group : Configuration → ℕ → ℕ → Outcome
@@ -74,7 +86,8 @@ mkdir_ana_group t id group = in_port t id (λ p. first_of (
     ((group == 0) || nat_lt MAX_ANA_GROUPS group, EINVAL)
     ∷ (map.contains_key p.groups group, EEXIST)
     ∷ [])
-    (Accepts (counted (on_port t id (put_group group state.Inaccessible))) (port_change p.at group)))
+    (Accepts (counted (on_port t id (put_group group state.Inaccessible)))
+    (port_change p.at group)))
 
 -- ---- rmdir
 unfoldable pub rmdir_host : Configuration → List ℕ → Outcome
@@ -82,14 +95,20 @@ rmdir_host t host = first_of (
     (not (map.contains_key t.settings.hosts host), ENOENT)
     ∷ (some_subsystem_allows t host, EBUSY)
     ∷ [])
-    (Accepts (with_settings t (record t.settings { hosts = map.remove t.settings.hosts host })) (touching touches.Nothing))
+    (Accepts (with_settings t (record t.settings {
+      hosts =
+          map.remove t.settings.hosts host;
+    })) (touching touches.Nothing))
 
 unfoldable pub rmdir_subsystem : Configuration → List ℕ → Outcome
 rmdir_subsystem t sub = in_subsystem t sub (λ s. first_of (
     (some_port_links t sub || controller_at_subsystem t s, EBUSY)
     ∷ (nat_lt 0 (map.len s.namespaces) || nat_lt 0 (map.len s.allowed_hosts), ENOTEMPTY)
     ∷ [])
-    (Accepts (with_settings t (record t.settings { subsystems = map.remove t.settings.subsystems sub })) (touching (touches.Subsystem s.at))))
+    (Accepts (with_settings t (record t.settings {
+      subsystems =
+          map.remove t.settings.subsystems sub;
+    })) (touching (touches.Subsystem s.at))))
 
 unfoldable pub rmdir_namespace : Configuration → List ℕ → ℕ → Outcome
 rmdir_namespace t sub nsid = in_namespace t sub nsid (λ s n. first_of (
@@ -103,7 +122,10 @@ rmdir_port t id = in_port t id (λ p. first_of (
     (controller_at_port t p, EBUSY)
     ∷ (nat_lt 0 (map.len p.links) || nat_lt 1 (map.len p.groups), ENOTEMPTY)
     ∷ [])
-    (Accepts (with_settings t (record t.settings { ports = map.remove t.settings.ports id })) (touching (touches.Port p.at))))
+    (Accepts (with_settings t (record t.settings {
+      ports =
+          map.remove t.settings.ports id;
+    })) (touching (touches.Port p.at))))
 
 -- an ANA change of the port
 unfoldable pub rmdir_ana_group : Configuration → ℕ → ℕ → Outcome
@@ -121,32 +143,37 @@ set_attr_allow_any_host t sub value = in_subsystem t sub (λ s.
     ∷ (any && nat_lt 0 (map.len s.allowed_hosts), EINVAL)
     ∷ [])
     (unless_stands (same_bool s.allow_any_host any) t
-    (Accepts (on_subsystem t sub (put_in_subsystem (AllowAnyHost any))) (touching (touches.Subsystem s.at)))))
+    (Accepts (on_subsystem t sub (put_in_subsystem (AllowAnyHost any)))
+    (touching (touches.Subsystem s.at)))))
 
 unfoldable pub set_attr_serial : Configuration → List ℕ → List ℕ → Outcome
 set_attr_serial t sub value = in_subsystem t sub (λ s. first_of (
     (nat_lt SERIAL_LEN (length value) || controller_at_subsystem t s, EINVAL)
     ∷ [])
     (unless_stands (bytes_eq s.serial value) t
-    (Accepts (on_subsystem t sub (put_in_subsystem (Serial value))) (touching (touches.Subsystem s.at)))))
+    (Accepts (on_subsystem t sub (put_in_subsystem (Serial value)))
+    (touching (touches.Subsystem s.at)))))
 
 unfoldable pub set_attr_model : Configuration → List ℕ → List ℕ → Outcome
 set_attr_model t sub value = in_subsystem t sub (λ s. first_of (
     ((length value == 0) || nat_lt MODEL_LEN (length value) || controller_at_subsystem t s, EINVAL)
     ∷ [])
     (unless_stands (bytes_eq s.model_name value) t
-    (Accepts (on_subsystem t sub (put_in_subsystem (ModelName value))) (touching (touches.Subsystem s.at)))))
+    (Accepts (on_subsystem t sub (put_in_subsystem (ModelName value)))
+    (touching (touches.Subsystem s.at)))))
 
 -- ---- set, on a namespace
 abbrev pub put_on : Configuration → List ℕ → ℕ → ℕ → NamespacePut → Outcome
-put_on t sub at nsid put = Accepts (on_subsystem t sub (put_namespace nsid put)) (touching (touches.Namespace at nsid))
+put_on t sub at nsid put = Accepts (on_subsystem t sub (put_namespace nsid put))
+    (touching (touches.Namespace at nsid))
 
 unfoldable pub set_device_path : Configuration → List ℕ → ℕ → List ℕ → Outcome
 set_device_path t sub nsid value = in_namespace t sub nsid (λ s n. first_of (
     (is_busy t s nsid n, EBUSY)
     ∷ (not (is_path value), EINVAL)
     ∷ [])
-    (unless_stands (has_path n.device_path value) t (put_on t sub s.at nsid (Path value (number_of value (paths_of t.disks))))))
+    (unless_stands (has_path n.device_path value) t (put_on t sub s.at nsid
+    (Path value (number_of value (paths_of t.disks))))))
 
 -- what the text parses to is put
 abbrev pub put_parsed : Option (List ℕ) → (List ℕ → Outcome) → Outcome
@@ -158,27 +185,35 @@ unfoldable pub set_identifier : Configuration → List ℕ → ℕ → Identifie
 set_identifier t sub nsid which value = in_namespace t sub nsid (λ s n. first_of (
     (is_busy t s nsid n, EBUSY)
     ∷ [])
-    (put_parsed (parsed value) (λ bytes. unless_stands (bytes_eq (identifier_of which n) bytes) t (put_on t sub s.at nsid (NewIdentifier which bytes)))))
+    (put_parsed (parsed value) (λ bytes. unless_stands (bytes_eq (identifier_of which n) bytes) t
+    (put_on t sub s.at nsid (NewIdentifier which bytes)))))
 
 -- an ANA change of the subsystem, where the value changes
-abbrev pub put_group_of : Configuration → List ℕ → ℕ → SubsystemRow → NamespaceRow → Option ℕ → Outcome
+abbrev pub put_group_of : Configuration → List ℕ → ℕ → SubsystemRow → NamespaceRow → Option ℕ
+    → Outcome
 put_group_of t sub nsid s n None = Refuses EINVAL
 put_group_of t sub nsid s n (Some group) = unless_stands (n.group == group) t
-    (Accepts (counted (on_subsystem t sub (put_namespace nsid (Group group)))) (group_change s.at nsid))
+    (Accepts (counted (on_subsystem t sub (put_namespace nsid (Group group))))
+    (group_change s.at nsid))
 
 unfoldable pub set_ana_grpid : Configuration → List ℕ → ℕ → List ℕ → Outcome
-set_ana_grpid t sub nsid value = in_namespace t sub nsid (λ s n. put_group_of t sub nsid s n (group_named value))
+set_ana_grpid t sub nsid value = in_namespace t sub nsid (λ s n. put_group_of t sub nsid s n
+    (group_named value))
 
 -- enabled to draining: the disk stays held until the drain ends
 abbrev pub disabled : Configuration → List ℕ → ℕ → SubsystemRow → NamespaceRow → Outcome
 disabled t sub nsid s n = unless_stands (not n.enabled) t
-    (Accepts (on_subsystem t sub (put_namespace nsid (Enabled false))) (namespace_change s.at nsid true))
+    (Accepts (on_subsystem t sub (put_namespace nsid (Enabled false)))
+    (namespace_change s.at nsid true))
 
 -- off to enabled: the namespace holds the disk of its path
 abbrev pub enabled : Configuration → List ℕ → ℕ → SubsystemRow → NamespaceRow → Outcome
 enabled t sub nsid s n = unless_stands n.enabled t
     (Accepts (record (on_subsystem t sub (put_namespace nsid (Enabled true))) {
-      disks = hold (path_or_empty n.device_path) (Some (record { sub = s.at; nsid = nsid })) t.disks;
+      disks = hold (path_or_empty n.device_path) (Some (record {
+        sub = s.at;
+        nsid = nsid;
+      })) t.disks;
     })
     (namespace_change s.at nsid false))
 
@@ -223,7 +258,8 @@ put_state t id group p old (Some new) = unless_stands (same_state old new) t
     (Accepts (counted (on_port t id (put_group group new))) (port_change p.at group))
 
 unfoldable pub set_ana_state : Configuration → ℕ → ℕ → List ℕ → Outcome
-set_ana_state t id group value = in_group t id group (λ p old. put_state t id group p old (ana_named value))
+set_ana_state t id group value = in_group t id group (λ p old. put_state t id group p old
+    (ana_named value))
 
 -- ---- the whole table
 abbrev pub mkdir : Configuration → Folder → Outcome

@@ -94,7 +94,8 @@ impl Configuration {
         attr: Attr,
         value: &[u8],
     ) -> Result<Change, Refused>
-        ensures { Gives (is_text_attr attr) (set_of_subsystem self.old sub.now attr value.now) self.old result self.new }
+        ensures { Gives (is_text_attr attr) (set_of_subsystem self.old sub.now attr value.now)
+            self.old result self.new }
     {
         match attr {
             Attr::AllowAnyHost => refusing(self.set_attr_allow_any_host(sub, value)),
@@ -112,8 +113,8 @@ impl Configuration {
         attr: Attr,
         value: &[u8],
     ) -> Result<Change, Refused>
-        requires { IsTrue (is_text value.now) }
-        ensures { Gives (is_text_attr attr) (set_of_namespace self.old sub.now nsid attr value.now) self.old result self.new }
+        ensures { Gives (is_text_attr attr) (set_of_namespace self.old sub.now nsid attr value.now)
+            self.old result self.new }
     {
         match attr {
             Attr::DevicePath => self.set_device_path(alloc, sub, nsid, value),
@@ -136,7 +137,8 @@ impl Configuration {
         attr: Attr,
         value: &[u8],
     ) -> Result<Change, Refused>
-        ensures { Gives (is_text_attr attr) (set_of_port self.old id attr value.now) self.old result self.new }
+        ensures { Gives (is_text_attr attr) (set_of_port self.old id attr value.now) self.old result
+            self.new }
     {
         match attr {
             Attr::Trtype => self.set_addr_trtype(alloc, id, value),
@@ -155,7 +157,8 @@ impl Configuration {
         attr: Attr,
         value: &[u8],
     ) -> Result<Change, Refused>
-        ensures { Gives (is_text_attr attr) (set_of_group self.old id group attr value.now) self.old result self.new }
+        ensures { Gives (is_text_attr attr) (set_of_group self.old id group attr value.now) self.old
+            result self.new }
     {
         match attr {
             Attr::AnaState => refusing(self.set_ana_state(id, group, value)),
@@ -164,7 +167,6 @@ impl Configuration {
     }
 
     fn edit_folder(&mut self, alloc: Global, e: &FolderEdit) -> Result<Change, Refused>
-        requires { IsTrue (is_fitting e.now) }
         ensures { Gives (may_grow e.now) (edit_outcome self.old e.now) self.old result self.new }
     {
         match e {
@@ -195,7 +197,8 @@ impl Tree {
     /// edit leaves the subsystem and the port, at their positions.
     pub fn apply_folder(&mut self, alloc: Global, e: &FolderEdit) -> Result<Change, Refused>
         requires { IsTrue (is_fitting e.now) }
-        ensures gives { Gives (may_grow e.now) (edit_outcome self.old e.now) self.old result self.new }
+        ensures gives { Gives (may_grow e.now) (edit_outcome self.old e.now) self.old result
+            self.new }
         ensures stays { IfOk result (λ _. Stays self.old self.new) }
         ensures tells { IfOk result (λ change. Tells self.old self.new change) }
     {

@@ -142,7 +142,8 @@ impl Configuration {
 
     // Whether a namespace is enabled or draining.
     pub(crate) fn busy(&self, at: u8, nsid: u32, row: &NamespaceRow) -> bool
-        ensures { result ≡ (row.now.enabled || holds_path self.now.disks at nsid row.now.device_path) }
+        ensures { result ≡ (row.now.enabled || holds_path self.now.disks at nsid
+            row.now.device_path) }
     {
         row.enabled || self.disks.holds(at, nsid, &row.device_path)
     }

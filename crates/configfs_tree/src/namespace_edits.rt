@@ -11,7 +11,7 @@ use crate::configuration::{Configuration, raised};
 use crate::edits::{Change, Errno, Refused, Touched};
 use crate::tree::Tree;
 use configfs_rows::{
-    Holder, Identifier, MAX_NSID, NamespacePut, Nqn, Phase, group_number, may_be_path, parsed_uuid,
+    Holder, Identifier, MAX_NSID, NamespacePut, Nqn, Phase, group_number, may_be_path, parse_uuid,
     stands,
 };
 use mem_bdev::Name;
@@ -64,7 +64,8 @@ impl Configuration {
         nsid: u32,
         value: &[u8],
     ) -> Result<Change, Refused>
-        ensures { Gives true (set_device_path self.old sub.now nsid value.now) self.old result self.new }
+        ensures { Gives true (set_device_path self.old sub.now nsid value.now) self.old result
+            self.new }
     {
         let Some(row) = self.settings.subsystems.get(sub) else {
             return Err(Refused::Errno(Errno::ENOENT));
@@ -100,8 +101,8 @@ impl Configuration {
         which: Identifier,
         value: &[u8],
     ) -> Result<Change, Errno>
-        requires { IsTrue (is_text value.now) }
-        ensures { GivesErrno (set_identifier self.old sub.now nsid which value.now) self.old result self.new }
+        ensures { GivesErrno (set_identifier self.old sub.now nsid which value.now) self.old result
+            self.new }
     {
         let Some(row) = self.settings.subsystems.get(sub) else {
             return Err(Errno::ENOENT);
@@ -113,7 +114,7 @@ impl Configuration {
         if self.busy(at, nsid, namespace) {
             return Err(Errno::EBUSY);
         }
-        let Some(bytes) = parsed_uuid(value) else {
+        let Some(bytes) = parse_uuid(value) else {
             return Err(Errno::EINVAL);
         };
         if namespace.identifier(which).as_slice() == bytes.as_slice() {
@@ -132,7 +133,8 @@ impl Configuration {
         nsid: u32,
         value: &[u8],
     ) -> Result<Change, Errno>
-        ensures { GivesErrno (set_ana_grpid self.old sub.now nsid value.now) self.old result self.new }
+        ensures { GivesErrno (set_ana_grpid self.old sub.now nsid value.now) self.old result
+            self.new }
     {
         let Some(row) = self.settings.subsystems.get(sub) else {
             return Err(Errno::ENOENT);
@@ -220,7 +222,8 @@ impl Tree {
     /// Makes the edit set `enable` to `0`, without memory: an enabled namespace begins to drain,
     /// another stays as it is. ENOENT is exactly where the subsystem or the namespace isn't there.
     pub fn disable(&mut self, sub: &Nqn, nsid: u32) -> Result<Change, Errno>
-        ensures gives { GivesErrno (set_enable self.old sub.now nsid (codes "0")) self.old result self.new }
+        ensures gives { GivesErrno (set_enable self.old sub.now nsid (codes "0")) self.old result
+            self.new }
         ensures tells { IfOk result (λ change. Tells self.old self.new change) }
     {
         self.configuration.set_enable(sub, nsid, b"0")

@@ -108,7 +108,8 @@ impl Configuration {
         good: bool,
         value: &[u8],
     ) -> Result<Change, Refused>
-        ensures { Gives true (set_address self.old id address good value.now) self.old result self.new }
+        ensures { Gives true (set_address self.old id address good value.now) self.old result
+            self.new }
     {
         let Some(row) = self.settings.ports.get(id) else {
             return Err(Refused::Errno(Errno::ENOENT));

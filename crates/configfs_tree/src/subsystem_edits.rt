@@ -61,7 +61,8 @@ impl Configuration {
         sub: &Nqn,
         value: &[u8],
     ) -> Result<Change, Errno>
-        ensures { GivesErrno (set_attr_allow_any_host self.old sub.now value.now) self.old result self.new }
+        ensures { GivesErrno (set_attr_allow_any_host self.old sub.now value.now) self.old result
+            self.new }
     {
         let Some(row) = self.settings.subsystems.get(sub) else {
             return Err(Errno::ENOENT);

@@ -77,9 +77,12 @@ impl Tree {
 
     /// Whether one more controller may be attached at these positions.
     pub fn has_room(&self, sub: u8, port: u8) -> bool
-        ensures sub_room { IsTrue result → slice_index self.now.settings.attached.subsystems sub < MAX_CONTROLLERS }
-        ensures port_room { IsTrue result → slice_index self.now.settings.attached.ports port < MAX_CONTROLLERS }
-        ensures room { slice_index self.now.settings.attached.subsystems sub < MAX_CONTROLLERS → slice_index self.now.settings.attached.ports port < MAX_CONTROLLERS → IsTrue result }
+        ensures sub_room { IsTrue result → slice_index self.now.settings.attached.subsystems sub <
+            MAX_CONTROLLERS }
+        ensures port_room { IsTrue result → slice_index self.now.settings.attached.ports port <
+            MAX_CONTROLLERS }
+        ensures room { slice_index self.now.settings.attached.subsystems sub < MAX_CONTROLLERS
+            → slice_index self.now.settings.attached.ports port < MAX_CONTROLLERS → IsTrue result }
     {
         let attached = &self.configuration.settings.attached;
         count_at(&attached.subsystems, sub) < MAX_CONTROLLERS
@@ -135,7 +138,8 @@ impl Tree {
         }
     }
 
-    /// The position of the port of an ID, or `None` exactly where there is none. The position is in use.
+    /// The position of the port of an ID, or `None` exactly where there is none. The position is in
+    /// use.
     pub fn port_at(&self, id: u16) -> Option<u8>
         ensures is { result ≡ port_place (maps.get self.now.settings.ports id) }
         ensures in_use { IfSome result (λ at. IsTrue (port_place_taken self.now at)) }
@@ -241,7 +245,8 @@ impl Tree {
     /// The position of the subsystem with this number, from 0, in byte order of NQN; `None`
     /// exactly where there are not more than so many. The position is in use.
     pub fn nth_subsystem(&self, n: u32) -> Option<u8>
-        ensures is { result ≡ subsystem_place (slice_get (maps.values self.now.settings.subsystems) n) }
+        ensures is { result ≡ subsystem_place (slice_get (maps.values self.now.settings.subsystems)
+            n) }
         ensures in_use { IfSome result (λ at. IsTrue (subsystem_place_taken self.now at)) }
     {
         self.nth_place(n)

@@ -8,9 +8,13 @@ use Rattle.configfs_rows.proofs.disks.put_holder.Goals as goal
 pub returns-then-eq : goal.returns-then-eq
 returns-then-eq c =
     let lt : c.loop-i.i < length c.loop-i.rows = omega arith in
-    let same : get_or c.loop-i.rows c.loop-i.i c.index-rows-i.result ≡ get_or c.loop-i.rows c.loop-i.i c.index-rows-i-then-eq.result = get_or_default _ _ _ _ lt in
-    let hit : bytes_eq (get_or c.loop-i.rows c.loop-i.i c.index-rows-i-then-eq.result).path c.args.path.now ≡ true = rw (← same, ← c.as_bytes.ensures, ← c.eq.ensures) c.if-eq.true in
-    hold_hit c.args.path.now c.args.h c.loop-i.rows c.loop-i.i c.index-rows-i-then-eq.result lt hit c.loop-i.invariant.so_far
+    let same : get_or c.loop-i.rows c.loop-i.i c.index-rows-i.result
+    ≡ get_or c.loop-i.rows c.loop-i.i c.index-rows-i-then-eq.result =
+    get_or_default _ _ _ _ lt in
+    let hit : bytes_eq (get_or c.loop-i.rows c.loop-i.i c.index-rows-i-then-eq.result).path
+    c.args.path.now ≡ true = rw (← same, ← c.as_bytes.ensures, ← c.eq.ensures) c.if-eq.true in
+    hold_hit c.args.path.now c.args.h c.loop-i.rows c.loop-i.i c.index-rows-i-then-eq.result lt hit
+    c.loop-i.invariant.so_far
     ∙ ap (hold c.args.path.now c.args.h) c.loop-i.invariant.same
 
 pub returns : goal.returns

@@ -3,4 +3,8 @@ use Rattle.configfs_rows.proofs.Seen.{seen_len}
 use Rattle.configfs_rows.proofs.names.Names.len.Goals as goal
 
 pub returns : goal.returns
-returns c = rw (← c.self.view_is, seen_len nat_list_cmp_total c.self.inside.names c.len.ensures.ordered) c.len.ensures.len
+returns c = rw (
+  ← c.self.view_is,
+  seen_len nat_list_cmp_total c.self.inside.names
+      c.len.ensures.ordered,
+) c.len.ensures.len

@@ -9,12 +9,29 @@ use Rattle.configfs_rows.proofs.names.Names.nth.Goals as goal
 
 pub returns-then-left-eq0 : goal.returns-then-left-eq0
 returns-then-left-eq0 c =
-    let turn = iter_turn deref (tree.keys c.self.inside.names) c.loop-name.yielded c.into_iter-name-iterator.result c.loop-name.name-iterator c.next.new.self c.next.result (c.into_iter-name-iterator.ensures.into_iter_gives ∙ c.keys-name-items.ensures.rest) c.loop-name.yielded_by c.in-Some.name c.in-Some.is c.next.ensures.steps in
+    let turn = iter_turn deref (tree.keys c.self.inside.names) c.loop-name.yielded
+    c.into_iter-name-iterator.result c.loop-name.name-iterator c.next.new.self c.next.result
+    (c.into_iter-name-iterator.ensures.into_iter_gives
+    ∙ c.keys-name-items.ensures.rest) c.loop-name.yielded_by c.in-Some.name c.in-Some.is
+    c.next.ensures.steps in
     let at : length c.loop-name.yielded ≡ c.args.n = omega arith in
-    rw (← c.self.view_is, seen_keys nat_list_cmp_total c.self.inside.names c.keys-name-items.ensures.ordered, ← at) (sym turn.1)
+    rw (
+      ← c.self.view_is,
+      seen_keys nat_list_cmp_total c.self.inside.names
+          c.keys-name-items.ensures.ordered,
+      ← at,
+    ) (sym turn.1)
 
 pub returns : goal.returns
 returns c =
-    let stop = iter_end deref (tree.keys c.self.inside.names) c.loop-name.yielded c.into_iter-name-iterator.result c.loop-name.name-iterator c.next.new.self c.next.result (c.into_iter-name-iterator.ensures.into_iter_gives ∙ c.keys-name-items.ensures.rest) c.loop-name.yielded_by c.in-None.is c.next.ensures.steps in
+    let stop = iter_end deref (tree.keys c.self.inside.names) c.loop-name.yielded
+    c.into_iter-name-iterator.result c.loop-name.name-iterator c.next.new.self c.next.result
+    (c.into_iter-name-iterator.ensures.into_iter_gives
+    ∙ c.keys-name-items.ensures.rest) c.loop-name.yielded_by c.in-None.is c.next.ensures.steps
+    in
     let past : length (tree.keys c.self.inside.names) ≤ c.args.n = omega (arith, stop.1) in
-    rw (← c.self.view_is, seen_keys nat_list_cmp_total c.self.inside.names c.keys-name-items.ensures.ordered) (sym (slice_get_past _ _ past))
+    rw (
+      ← c.self.view_is,
+      seen_keys nat_list_cmp_total c.self.inside.names
+          c.keys-name-items.ensures.ordered,
+    ) (sym (slice_get_past _ _ past))

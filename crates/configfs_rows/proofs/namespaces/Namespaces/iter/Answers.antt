@@ -3,4 +3,8 @@ use Rattle.configfs_rows.proofs.Seen.{seen_entries}
 use Rattle.configfs_rows.proofs.namespaces.Namespaces.iter.Goals as goal
 
 pub returns : goal.returns
-returns c = rw (← c.self.view_is, seen_entries nat_cmp_total c.self.inside.rows c.iter.ensures.ordered) c.iter.ensures.rest
+returns c = rw (
+  ← c.self.view_is,
+  seen_entries nat_cmp_total c.self.inside.rows
+      c.iter.ensures.ordered,
+) c.iter.ensures.rest

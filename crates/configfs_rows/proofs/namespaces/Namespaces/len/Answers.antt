@@ -3,4 +3,5 @@ use Rattle.configfs_rows.proofs.Seen.{seen_len}
 use Rattle.configfs_rows.proofs.namespaces.Namespaces.len.Goals as goal
 
 pub returns : goal.returns
-returns c = rw (← c.self.view_is, seen_len nat_cmp_total c.self.inside.rows c.len.ensures.ordered) c.len.ensures.len
+returns c = rw (← c.self.view_is, seen_len nat_cmp_total c.self.inside.rows c.len.ensures.ordered)
+    c.len.ensures.len

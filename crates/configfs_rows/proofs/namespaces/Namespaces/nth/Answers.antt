@@ -9,12 +9,29 @@ use Rattle.configfs_rows.proofs.namespaces.Namespaces.nth.Goals as goal
 
 pub returns-then-left-eq0 : goal.returns-then-left-eq0
 returns-then-left-eq0 c =
-    let turn = iter_turn deref (tree.keys c.self.inside.rows) c.loop-nsid.yielded c.into_iter-nsid-iterator.result c.loop-nsid.nsid-iterator c.next.new.self c.next.result (c.into_iter-nsid-iterator.ensures.into_iter_gives ∙ c.keys-nsid-items.ensures.rest) c.loop-nsid.yielded_by c.in-Some.nsid c.in-Some.is c.next.ensures.steps in
+    let turn = iter_turn deref (tree.keys c.self.inside.rows) c.loop-nsid.yielded
+    c.into_iter-nsid-iterator.result c.loop-nsid.nsid-iterator c.next.new.self c.next.result
+    (c.into_iter-nsid-iterator.ensures.into_iter_gives
+    ∙ c.keys-nsid-items.ensures.rest) c.loop-nsid.yielded_by c.in-Some.nsid c.in-Some.is
+    c.next.ensures.steps in
     let at : length c.loop-nsid.yielded ≡ c.args.n = omega arith in
-    rw (← c.self.view_is, seen_keys nat_cmp_total c.self.inside.rows c.keys-nsid-items.ensures.ordered, ← at) (sym turn.1)
+    rw (
+      ← c.self.view_is,
+      seen_keys nat_cmp_total c.self.inside.rows
+          c.keys-nsid-items.ensures.ordered,
+      ← at,
+    ) (sym turn.1)
 
 pub returns : goal.returns
 returns c =
-    let stop = iter_end deref (tree.keys c.self.inside.rows) c.loop-nsid.yielded c.into_iter-nsid-iterator.result c.loop-nsid.nsid-iterator c.next.new.self c.next.result (c.into_iter-nsid-iterator.ensures.into_iter_gives ∙ c.keys-nsid-items.ensures.rest) c.loop-nsid.yielded_by c.in-None.is c.next.ensures.steps in
+    let stop = iter_end deref (tree.keys c.self.inside.rows) c.loop-nsid.yielded
+    c.into_iter-nsid-iterator.result c.loop-nsid.nsid-iterator c.next.new.self c.next.result
+    (c.into_iter-nsid-iterator.ensures.into_iter_gives
+    ∙ c.keys-nsid-items.ensures.rest) c.loop-nsid.yielded_by c.in-None.is c.next.ensures.steps
+    in
     let past : length (tree.keys c.self.inside.rows) ≤ c.args.n = omega (arith, stop.1) in
-    rw (← c.self.view_is, seen_keys nat_cmp_total c.self.inside.rows c.keys-nsid-items.ensures.ordered) (sym (slice_get_past _ _ past))
+    rw (
+      ← c.self.view_is,
+      seen_keys nat_cmp_total c.self.inside.rows
+          c.keys-nsid-items.ensures.ordered,
+    ) (sym (slice_get_past _ _ past))

@@ -5,9 +5,14 @@ use Rattle.configfs_rows.specs.Rows.{put_in}
 use Rattle.configfs_rows.proofs.namespaces.Namespaces.put.Goals as goal
 
 pub returns-in_default : goal.returns-in_default
-returns-in_default c = rw (← c.self.view_is) (seen_missing nat_cmp_total c.self.inside.rows c.get_mut.follows.lender-at-none c.args.nsid (put_in c.args.put) (rw c.in_default.is at c.get_mut.ensures.value) c.get_mut.follows.holds-at-none)
+returns-in_default c = rw (← c.self.view_is) (seen_missing nat_cmp_total c.self.inside.rows
+    c.get_mut.follows.lender-at-none c.args.nsid (put_in c.args.put)
+    (rw c.in_default.is at c.get_mut.ensures.value) c.get_mut.follows.holds-at-none)
 
 pub returns : goal.returns
 returns c =
     let after = c.put.new.self in
-    rw (← c.self.view_is) (seen_update nat_cmp_total nat_cmp-IsAntisymmetric c.self.inside.rows (c.get_mut.follows.lender after) c.args.nsid (put_in c.args.put) c.in-Some.row.now after (rw c.in-Some.is at c.get_mut.ensures.value) (c.get_mut.follows.holds after).3 c.put.ensures)
+    rw (← c.self.view_is) (seen_update nat_cmp_total nat_cmp-IsAntisymmetric c.self.inside.rows
+    (c.get_mut.follows.lender after) c.args.nsid (put_in c.args.put) c.in-Some.row.now after
+    (rw c.in-Some.is at c.get_mut.ensures.value) (c.get_mut.follows.holds after).3
+    c.put.ensures)

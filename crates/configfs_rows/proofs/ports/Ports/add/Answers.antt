@@ -4,4 +4,5 @@ use Rattle.configfs_rows.proofs.Seen.{seen_put}
 use Rattle.configfs_rows.proofs.ports.Ports.add.Goals as goal
 
 pub returns-clause-ok : goal.returns-clause-ok
-returns-clause-ok c = rw (← c.self.view_is) (seen_put nat_cmp_total nat_cmp-IsAntisymmetric c.self.inside.rows c.insert.new.self _ _ c.in_ok-insert.ensures.updates)
+returns-clause-ok c = rw (← c.self.view_is) (seen_put nat_cmp_total nat_cmp-IsAntisymmetric
+    c.self.inside.rows c.insert.new.self _ _ c.in_ok-insert.ensures.updates)

@@ -6,4 +6,5 @@ use Rattle.configfs_rows.specs.declared.limits.TheConstants.{MAX_PORTS}
 use Rattle.configfs_rows.proofs.ports.Ports.free_place.Given as goal
 
 abbrev pub invariant-loop-at : goal.invariant-loop-at
-invariant-loop-at l = lowest_free MAX_PORTS 0 (λ at. list_any (λ p. p.at == at) (map.values l.self)) ≡ lowest_free (MAX_PORTS - l.at) l.at (λ at. list_any (λ p. p.at == at) (map.values l.self))
+invariant-loop-at l = lowest_free MAX_PORTS 0 (λ at. list_any (λ p. p.at == at) (map.values l.self))
+    ≡ lowest_free (MAX_PORTS - l.at) l.at (λ at. list_any (λ p. p.at == at) (map.values l.self))

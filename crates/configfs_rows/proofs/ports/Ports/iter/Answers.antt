@@ -3,4 +3,8 @@ use Rattle.configfs_rows.proofs.Seen.{seen_values}
 use Rattle.configfs_rows.proofs.ports.Ports.iter.Goals as goal
 
 pub returns : goal.returns
-returns c = rw (← c.self.view_is, seen_values nat_cmp_total c.self.inside.rows c.values.ensures.ordered) c.values.ensures.rest
+returns c = rw (
+  ← c.self.view_is,
+  seen_values nat_cmp_total c.self.inside.rows
+      c.values.ensures.ordered,
+) c.values.ensures.rest

@@ -6,14 +6,29 @@ use Rattle.configfs_rows.specs.Ports.{put_link}
 use Rattle.configfs_rows.proofs.ports.Ports.put_link.Goals as goal
 
 pub returns-in_default-clause-ok : goal.returns-in_default-clause-ok
-returns-in_default-clause-ok c = rw (← c.self.view_is) (seen_missing nat_cmp_total c.self.inside.rows c.get_mut.follows.lender-at-none c.args.id (put_link c.args.nqn.now c.args.linked) (rw c.in_default.is at c.get_mut.ensures.value) c.get_mut.follows.holds-at-none)
+returns-in_default-clause-ok c = rw (← c.self.view_is) (seen_missing nat_cmp_total
+    c.self.inside.rows c.get_mut.follows.lender-at-none c.args.id
+    (put_link c.args.nqn.now c.args.linked) (rw c.in_default.is at c.get_mut.ensures.value)
+    c.get_mut.follows.holds-at-none)
 
 pub returns-clause-ok : goal.returns-clause-ok
 returns-clause-ok c =
     let after = record c.in-Some.row.now { links = c.keep_or_take.new.self } in
-    rw (← c.self.view_is) (seen_update nat_cmp_total nat_cmp-IsAntisymmetric c.self.inside.rows (c.get_mut.follows.lender after) c.args.id (put_link c.args.nqn.now c.args.linked) c.in-Some.row.now after (rw c.in-Some.is at c.get_mut.ensures.value) (c.get_mut.follows.holds after).3 (ap (λ ns. record c.in-Some.row.now { links = ns }) c.in_ok-keep_or_take.ensures.ok))
+    rw (← c.self.view_is) (seen_update nat_cmp_total nat_cmp-IsAntisymmetric c.self.inside.rows
+    (c.get_mut.follows.lender after) c.args.id (put_link c.args.nqn.now c.args.linked)
+    c.in-Some.row.now after (rw c.in-Some.is at c.get_mut.ensures.value)
+    (c.get_mut.follows.holds after).3 (ap (λ ns. record c.in-Some.row.now {
+      links =
+          ns;
+    }) c.in_ok-keep_or_take.ensures.ok))
 
 pub returns-in_err-keep_or_take-clause-err : goal.returns-in_err-keep_or_take-clause-err
 returns-in_err-keep_or_take-clause-err c =
     let after = record c.in-Some.row.now { links = c.keep_or_take.new.self } in
-    on_err c.from_residual.result _ (rw (← c.self.view_is) (seen_same nat_cmp_total nat_cmp-IsAntisymmetric c.self.inside.rows (c.get_mut.follows.lender after) c.args.id c.in-Some.row.now after (rw c.in-Some.is at c.get_mut.ensures.value) (c.get_mut.follows.holds after).3 (ap (λ ns. record c.in-Some.row.now { links = ns }) c.in_err-keep_or_take.ensures.err)))
+    on_err c.from_residual.result _ (rw (← c.self.view_is) (seen_same nat_cmp_total
+    nat_cmp-IsAntisymmetric c.self.inside.rows (c.get_mut.follows.lender after) c.args.id
+    c.in-Some.row.now after (rw c.in-Some.is at c.get_mut.ensures.value)
+    (c.get_mut.follows.holds after).3 (ap (λ ns. record c.in-Some.row.now {
+      links =
+          ns;
+    }) c.in_err-keep_or_take.ensures.err)))

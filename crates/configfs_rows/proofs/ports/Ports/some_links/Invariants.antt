@@ -5,4 +5,5 @@ use Rattle.std.specs.Map.Iter.{deref}
 use Rattle.configfs_rows.proofs.ports.Ports.some_links.Given as goal
 
 abbrev pub invariant-loop-row : goal.invariant-loop-row
-invariant-loop-row l = list_any (λ p. maps.contains_key p.links l.name) (map deref l.yielded) ≡ false
+invariant-loop-row l = list_any (λ p. maps.contains_key p.links l.name) (map deref l.yielded)
+    ≡ false

@@ -4,4 +4,6 @@ use Rattle.configfs_rows.proofs.Seen.{seen_put}
 use Rattle.configfs_rows.proofs.subsystems.Subsystems.add.Goals as goal
 
 pub returns-clause-ok : goal.returns-clause-ok
-returns-clause-ok c = rw (← c.self.view_is) (seen_put nat_list_cmp_total (slice_cmp-IsAntisymmetric nat_cmp-IsAntisymmetric) c.self.inside.rows c.insert.new.self _ _ c.in_ok-insert.ensures.updates)
+returns-clause-ok c = rw (← c.self.view_is) (seen_put nat_list_cmp_total
+    (slice_cmp-IsAntisymmetric nat_cmp-IsAntisymmetric) c.self.inside.rows c.insert.new.self _ _
+    c.in_ok-insert.ensures.updates)

@@ -9,17 +9,34 @@ use Rattle.configfs_rows.proofs.subsystems.Subsystems.at.Goals as goal
 
 pub returns-then-row-at : goal.returns-then-row-at
 returns-then-row-at c =
-    rw (← c.self.view_is, seen_values nat_list_cmp_total c.self.inside.rows c.values-row-items.ensures.ordered)
-    (sym (find_hit deref (λ (s : SubsystemRow). s.at == c.args.at) (tree.values c.self.inside.rows) c.loop-row.yielded c.into_iter-row-iterator.result c.loop-row.row-iterator c.next.new.self c.next.result c.in-Some.row
-    (c.into_iter-row-iterator.ensures.into_iter_gives ∙ c.values-row-items.ensures.rest) c.loop-row.yielded_by c.in-Some.is c.next.ensures.steps (eq-eqb _ _ c.if-row-at.true) c.loop-row.invariant))
+    rw (
+      ← c.self.view_is,
+      seen_values nat_list_cmp_total c.self.inside.rows
+          c.values-row-items.ensures.ordered,
+    )
+    (sym (find_hit deref (λ (s : SubsystemRow). s.at == c.args.at) (tree.values c.self.inside.rows)
+    c.loop-row.yielded c.into_iter-row-iterator.result c.loop-row.row-iterator c.next.new.self
+    c.next.result c.in-Some.row
+    (c.into_iter-row-iterator.ensures.into_iter_gives
+    ∙ c.values-row-items.ensures.rest) c.loop-row.yielded_by c.in-Some.is c.next.ensures.steps
+    (eq-eqb _ _ c.if-row-at.true) c.loop-row.invariant))
 
 pub loop-row-preserved : goal.loop-row-preserved
 loop-row-preserved c =
     let miss : (c.in-Some.row.now.at == c.args.at) ≡ false = search rules in
-    find_on deref (λ (s : SubsystemRow). s.at == c.args.at) c.loop-row.yielded c.in-Some.row c.loop-row.invariant miss
+    find_on deref (λ (s : SubsystemRow). s.at == c.args.at) c.loop-row.yielded c.in-Some.row
+    c.loop-row.invariant miss
 
 pub returns : goal.returns
 returns c =
-    rw (← c.self.view_is, seen_values nat_list_cmp_total c.self.inside.rows c.values-row-items.ensures.ordered)
-    (sym (find_end deref (λ (s : SubsystemRow). s.at == c.args.at) (tree.values c.self.inside.rows) c.loop-row.yielded c.into_iter-row-iterator.result c.loop-row.row-iterator c.next.new.self c.next.result
-    (c.into_iter-row-iterator.ensures.into_iter_gives ∙ c.values-row-items.ensures.rest) c.loop-row.yielded_by c.in-None.is c.next.ensures.steps c.loop-row.invariant))
+    rw (
+      ← c.self.view_is,
+      seen_values nat_list_cmp_total c.self.inside.rows
+          c.values-row-items.ensures.ordered,
+    )
+    (sym (find_end deref (λ (s : SubsystemRow). s.at == c.args.at) (tree.values c.self.inside.rows)
+    c.loop-row.yielded c.into_iter-row-iterator.result c.loop-row.row-iterator c.next.new.self
+    c.next.result
+    (c.into_iter-row-iterator.ensures.into_iter_gives
+    ∙ c.values-row-items.ensures.rest) c.loop-row.yielded_by c.in-None.is c.next.ensures.steps
+    c.loop-row.invariant))

@@ -9,12 +9,29 @@ use Rattle.configfs_rows.proofs.subsystems.Subsystems.nth.Goals as goal
 
 pub returns-then-left-eq0 : goal.returns-then-left-eq0
 returns-then-left-eq0 c =
-    let turn = iter_turn deref (tree.values c.self.inside.rows) c.loop-row.yielded c.into_iter-row-iterator.result c.loop-row.row-iterator c.next.new.self c.next.result (c.into_iter-row-iterator.ensures.into_iter_gives ∙ c.values-row-items.ensures.rest) c.loop-row.yielded_by c.in-Some.row c.in-Some.is c.next.ensures.steps in
+    let turn = iter_turn deref (tree.values c.self.inside.rows) c.loop-row.yielded
+    c.into_iter-row-iterator.result c.loop-row.row-iterator c.next.new.self c.next.result
+    (c.into_iter-row-iterator.ensures.into_iter_gives
+    ∙ c.values-row-items.ensures.rest) c.loop-row.yielded_by c.in-Some.row c.in-Some.is
+    c.next.ensures.steps in
     let at : length c.loop-row.yielded ≡ c.args.n = omega arith in
-    rw (← c.self.view_is, seen_values nat_list_cmp_total c.self.inside.rows c.values-row-items.ensures.ordered, ← at) (sym turn.1)
+    rw (
+      ← c.self.view_is,
+      seen_values nat_list_cmp_total c.self.inside.rows
+          c.values-row-items.ensures.ordered,
+      ← at,
+    ) (sym turn.1)
 
 pub returns : goal.returns
 returns c =
-    let stop = iter_end deref (tree.values c.self.inside.rows) c.loop-row.yielded c.into_iter-row-iterator.result c.loop-row.row-iterator c.next.new.self c.next.result (c.into_iter-row-iterator.ensures.into_iter_gives ∙ c.values-row-items.ensures.rest) c.loop-row.yielded_by c.in-None.is c.next.ensures.steps in
+    let stop = iter_end deref (tree.values c.self.inside.rows) c.loop-row.yielded
+    c.into_iter-row-iterator.result c.loop-row.row-iterator c.next.new.self c.next.result
+    (c.into_iter-row-iterator.ensures.into_iter_gives
+    ∙ c.values-row-items.ensures.rest) c.loop-row.yielded_by c.in-None.is c.next.ensures.steps
+    in
     let past : length (tree.values c.self.inside.rows) ≤ c.args.n = omega (arith, stop.1) in
-    rw (← c.self.view_is, seen_values nat_list_cmp_total c.self.inside.rows c.values-row-items.ensures.ordered) (sym (slice_get_past _ _ past))
+    rw (
+      ← c.self.view_is,
+      seen_values nat_list_cmp_total c.self.inside.rows
+          c.values-row-items.ensures.ordered,
+    ) (sym (slice_get_past _ _ past))

@@ -4,4 +4,6 @@ use Rattle.configfs_rows.proofs.Seen.{seen_remove}
 use Rattle.configfs_rows.proofs.subsystems.Subsystems.remove.Goals as goal
 
 pub returns : goal.returns
-returns c = rw (← c.self.view_is) (seen_remove nat_list_cmp_total (slice_cmp-IsAntisymmetric nat_cmp-IsAntisymmetric) c.self.inside.rows c.remove.new.self _ c.remove.ensures.updates)
+returns c = rw (← c.self.view_is) (seen_remove nat_list_cmp_total
+    (slice_cmp-IsAntisymmetric nat_cmp-IsAntisymmetric) c.self.inside.rows c.remove.new.self _
+    c.remove.ensures.updates)

@@ -9,12 +9,28 @@ use Rattle.configfs_rows.proofs.subsystems.Subsystems.some_allows.Goals as goal
 
 pub returns-then-contains : goal.returns-then-contains
 returns-then-contains c =
-    rw (← c.self.view_is, seen_values nat_list_cmp_total c.self.inside.rows c.values-row-items.ensures.ordered)
-    (sym (scan_hit deref (λ s. map.contains_key s.allowed_hosts c.args.host.now) (tree.values c.self.inside.rows) c.loop-row.yielded c.into_iter-row-iterator.result c.loop-row.row-iterator c.next.new.self c.next.result c.in-Some.row
-    (c.into_iter-row-iterator.ensures.into_iter_gives ∙ c.values-row-items.ensures.rest) c.loop-row.yielded_by c.in-Some.is c.next.ensures.steps (sym c.contains.ensures ∙ c.if-contains.true) c.loop-row.invariant))
+    rw (
+      ← c.self.view_is,
+      seen_values nat_list_cmp_total c.self.inside.rows
+          c.values-row-items.ensures.ordered,
+    )
+    (sym (scan_hit deref (λ s. map.contains_key s.allowed_hosts c.args.host.now)
+    (tree.values c.self.inside.rows) c.loop-row.yielded c.into_iter-row-iterator.result
+    c.loop-row.row-iterator c.next.new.self c.next.result c.in-Some.row
+    (c.into_iter-row-iterator.ensures.into_iter_gives
+    ∙ c.values-row-items.ensures.rest) c.loop-row.yielded_by c.in-Some.is c.next.ensures.steps
+    (sym c.contains.ensures ∙ c.if-contains.true) c.loop-row.invariant))
 
 pub returns : goal.returns
 returns c =
-    rw (← c.self.view_is, seen_values nat_list_cmp_total c.self.inside.rows c.values-row-items.ensures.ordered)
-    (sym (scan_end deref (λ s. map.contains_key s.allowed_hosts c.args.host.now) (tree.values c.self.inside.rows) c.loop-row.yielded c.into_iter-row-iterator.result c.loop-row.row-iterator c.next.new.self c.next.result
-    (c.into_iter-row-iterator.ensures.into_iter_gives ∙ c.values-row-items.ensures.rest) c.loop-row.yielded_by c.in-None.is c.next.ensures.steps c.loop-row.invariant))
+    rw (
+      ← c.self.view_is,
+      seen_values nat_list_cmp_total c.self.inside.rows
+          c.values-row-items.ensures.ordered,
+    )
+    (sym (scan_end deref (λ s. map.contains_key s.allowed_hosts c.args.host.now)
+    (tree.values c.self.inside.rows) c.loop-row.yielded c.into_iter-row-iterator.result
+    c.loop-row.row-iterator c.next.new.self c.next.result
+    (c.into_iter-row-iterator.ensures.into_iter_gives
+    ∙ c.values-row-items.ensures.rest) c.loop-row.yielded_by c.in-None.is c.next.ensures.steps
+    c.loop-row.invariant))

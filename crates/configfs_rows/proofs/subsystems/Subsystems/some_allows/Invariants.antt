@@ -5,4 +5,5 @@ use Rattle.std.specs.Map.Iter.{deref}
 use Rattle.configfs_rows.proofs.subsystems.Subsystems.some_allows.Given as goal
 
 abbrev pub invariant-loop-row : goal.invariant-loop-row
-invariant-loop-row l = list_any (λ s. maps.contains_key s.allowed_hosts l.host) (map deref l.yielded) ≡ false
+invariant-loop-row l = list_any (λ s. maps.contains_key s.allowed_hosts l.host)
+    (map deref l.yielded) ≡ false

@@ -9,4 +9,5 @@ pub invariant_of-self : goal.invariant_of-self
 invariant_of-self c =
     let t = c.self.inside.configuration in
     subst (λ (u : Configuration). IsStanding u) (sym c.free_disk.ensures)
-    (drain_stands t c.args.sub.now c.args.nsid (ap (λ (u : Configuration). phase_at u c.args.sub.now c.args.nsid) c.self.view_is ∙ c.requires) c.self.invariant)
+    (drain_stands t c.args.sub.now c.args.nsid (ap (λ (u : Configuration). phase_at u c.args.sub.now
+    c.args.nsid) c.self.view_is ∙ c.requires) c.self.invariant)

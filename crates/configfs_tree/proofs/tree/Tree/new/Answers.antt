@@ -5,4 +5,5 @@ use Rattle.configfs_tree.proofs.Stands.{start_stands}
 use Rattle.configfs_tree.proofs.tree.Tree.new.Goals as goal
 
 pub invariant_of-result : goal.invariant_of-result
-invariant_of-result c = subst (λ (t : Configuration). IsStanding t) (sym c.in_ok-configuration.ensures) (start_stands c.args.disks.now c.requires)
+invariant_of-result c = subst (λ (t : Configuration). IsStanding t)
+    (sym c.in_ok-configuration.ensures) (start_stands c.args.disks.now c.requires)

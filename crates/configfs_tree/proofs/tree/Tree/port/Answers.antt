@@ -9,4 +9,5 @@ use Rattle.configfs_tree.proofs.tree.Tree.port.Goals as goal
 pub unreachable-requires : goal.unreachable-requires
 unreachable-requires c =
     clash _ (ap (λ (t : Configuration). port_place_taken t c.args.at) c.self.view_is ∙ c.requires)
-    (none_passes (λ (r : PortRow). r.at == c.args.at) (maps.values c.self.inside.configuration.settings.ports) (sym c.in-None.ensures))
+    (none_passes (λ (r : PortRow). r.at == c.args.at) (maps.values
+    c.self.inside.configuration.settings.ports) (sym c.in-None.ensures))

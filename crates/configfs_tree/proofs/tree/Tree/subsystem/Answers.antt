@@ -8,5 +8,7 @@ use Rattle.configfs_tree.proofs.tree.Tree.subsystem.Goals as goal
 
 pub unreachable-requires : goal.unreachable-requires
 unreachable-requires c =
-    clash _ (ap (λ (t : Configuration). subsystem_place_taken t c.args.at) c.self.view_is ∙ c.requires)
-    (none_passes (λ (r : SubsystemRow). r.at == c.args.at) (maps.values c.self.inside.configuration.settings.subsystems) (sym c.in-None.ensures))
+    clash _ (ap (λ (t : Configuration). subsystem_place_taken t c.args.at) c.self.view_is
+    ∙ c.requires)
+    (none_passes (λ (r : SubsystemRow). r.at == c.args.at) (maps.values
+    c.self.inside.configuration.settings.subsystems) (sym c.in-None.ensures))
