@@ -15,7 +15,6 @@ fn controller() -> Ctrl {
         subnqn: [0; 256],
         serial: [b' '; 20],
         model_name: [b' '; 40],
-        kato: 0,
     }
 }
 
