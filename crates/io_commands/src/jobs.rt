@@ -2,7 +2,7 @@ ghost use Rattle.std.specs.Prelude.{◌≡◌, ◌≤◌, ◌+◌, length};
 ghost use Rattle.mem_bdev.specs.Texts.{HasRoom, appended};
 ghost use Rattle.io_commands.specs.Jobs.{HasData, blocks_after, bytes_read, end_of, given_len};
 
-use mem_bdev::{Buffer, Disk};
+use mem_bdev::{Buffer, Disk, MAX_TRANSFER};
 
 /// What a held command does: its disk's number in the plan, from 0, the first block, and how many blocks.
 #[derive(Clone, Copy, Debug, PartialEq, Eq)]
@@ -18,6 +18,22 @@ pub enum Job {
 pub enum Admit {
     Refused(u16),
     Run(Job),
+}
+
+/// How many bytes a job gives to the host: those of a Read's blocks, else none.
+#[inline(always)]
+pub fn given_len(job: &Job, disk: &Disk) -> u32
+    requires { given_len job.now disk.now.shift ≤ MAX_TRANSFER }
+    ensures { result ≡ given_len job.now disk.now.shift }
+{
+    match *job {
+        Job::Read {
+            disk: _,
+            lba: _,
+            count,
+        } => (count as usize * disk.block_size()) as u32,
+        Job::Write { .. } | Job::Zero { .. } | Job::Flush { .. } => 0,
+    }
 }
 
 /// Does a job on its disk (NVM Command Set 1.0, 3.2): a Read's blocks are appended to `to`, which has room for them; a

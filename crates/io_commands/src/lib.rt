@@ -13,5 +13,5 @@ mod law;
 mod tests;
 
 pub use admit::admit_io;
-pub use jobs::{Admit, Job, do_io};
+pub use jobs::{Admit, Job, do_io, given_len};
 pub use law::admitted_is_on_a_seen_disk;

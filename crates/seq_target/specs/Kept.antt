@@ -3,6 +3,9 @@ use Rattle.std.specs.Prelude.{◌≡◌, ◌==◌, ◌&&◌, ℕ, Bool, false, L
 use Rattle.mem_bdev.specs.Blocks.{Blocks}
 use Rattle.io_commands.specs.declared.jobs.Job.{Job}
 use Rattle.io_commands.specs.Jobs.{disk_of, bytes_read, given_len, FitsDisk, HasData}
+use Rattle.sqe_cqe.specs.declared.codes.TheConstants.{SUCCESS}
+use Rattle.seq_target.specs.declared.calls.Reply.{Reply}
+use Rattle.seq_target.specs.declared.calls.Reply.TheVariants.{Answered, NoEvent}
 use Rattle.seq_target.specs.declared.target.Command.{Command}
 
 pub record Kept : Type 0 where
@@ -46,3 +49,11 @@ bytes_of (Some h) d = bytes_read d h.job
 -- the bytes that it gives
 abbrev pub held_bytes : Kept → List ℕ
 held_bytes c = bytes_of c.held c.disk
+
+abbrev pub reply_to : Option Command → Reply
+reply_to None = NoEvent
+reply_to (Some h) = Answered (record { result = 0; sq_head = 0; sq_id = 1; cid = h.cid; status = SUCCESS })
+
+-- what its execute replies: success, on the one queue
+abbrev pub held_reply : Kept → Reply
+held_reply c = reply_to c.held

@@ -3,13 +3,13 @@ ghost use Rattle.mem_bdev.specs.Blocks.{IsShape};
 ghost use Rattle.mem_bdev.specs.Texts.{HasRoom, appended};
 ghost use Rattle.sqe_cqe.specs.Answers.{HasShape};
 ghost use Rattle.sqe_cqe.specs.Sqe.{host_len, payload_len};
-ghost use Rattle.seq_target.specs.Kept.{HasHeldData, held_bytes, held_len, holds};
+ghost use Rattle.seq_target.specs.Kept.{HasHeldData, held_bytes, held_len, held_reply, holds};
 ghost use Rattle.seq_target.specs.Model.{Submit, Execute, Control, simple_start};
 ghost use Rattle.seq_target.specs.Stands.{StandsFor, Simulates, IsIdle, IsHolding, IsLawfulAs, FitsAdmit, simple_row, simple_admission};
 
 use crate::calls::{Call, Reply};
-use io_commands::{Admit, Job, admit_io, do_io};
-use mem_bdev::{Buffer, Disk, DiskLine};
+use io_commands::{Admit, Job, admit_io, do_io, given_len};
+use mem_bdev::{Buffer, Disk, DiskLine, MAX_TRANSFER};
 use sqe_cqe::{Ana, Bound, Cqe, INVALID_OPCODE, NsRow, OneLook, OneRow, SUCCESS, Seen, Sqe};
 use std::alloc::{AllocError, Global};
 use std::marker::Model;
@@ -120,6 +120,29 @@ impl Target {
         }
     }
 
+    /// What the execute of the held command replies: success. Of no command that is `NoEvent`.
+    #[inline(always)]
+    pub fn held_reply(&self) -> Reply
+        ensures { result ≡ held_reply self.now }
+    {
+        match self.held {
+            None => Reply::NoEvent,
+            Some(command) => complete(command.cid, SUCCESS),
+        }
+    }
+
+    /// How many bytes the held command gives to the host, at most 131,072; of no command none.
+    #[inline(always)]
+    pub fn held_len(&self) -> u32
+        ensures value { result ≡ held_len self.now }
+        ensures short { result ≤ MAX_TRANSFER }
+    {
+        match self.held {
+            None => 0,
+            Some(command) => given_len(&command.job, &self.disk),
+        }
+    }
+
     /// Executes the command that is held, with its capsule's data. A Read's bytes are appended to `to`, which has room for
     /// them. Takes no memory.
     #[inline(always)]
@@ -129,6 +152,7 @@ impl Target {
         requires data { HasHeldData self.old (length payload.now) }
         requires room { HasRoom to.old (held_len self.old) }
         ensures does { Simulates self.old (Execute queue number payload.now) result (held_bytes self.old) self.new }
+        ensures reply { result ≡ held_reply self.old }
         ensures appends { to.new ≡ appended to.old (held_bytes self.old) }
         ensures len { length to.new.bytes ≡ length to.old.bytes + held_len self.old }
         ensures idle { IsIdle self.new }
