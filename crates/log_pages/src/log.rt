@@ -10,6 +10,7 @@ ghost use Rattle.log_pages.specs.Logs.{log_id, log_offset, log_len, log_of, reta
 use ana_groups::ana_page;
 use async_events::{Events, Log};
 use look_pages::{Choice, list_part};
+use mem_bdev::MAX_TRANSFER;
 use sqe_cqe::{Ctrl, DATA_SGL_LENGTH_INVALID, INVALID_FIELD, Look, SUCCESS, Sqe};
 
 /// The log page Changed Namespace List (LID).
@@ -19,7 +20,7 @@ pub const CHANGED_NAMESPACES: u32 = 0x04;
 pub const ANA_LOG: u32 = 0x0c;
 
 /// The most bytes that one command reads: 2^MDTS pages of 4,096 bytes, with MDTS 5.
-pub const MOST_READ: u32 = 131_072;
+pub const MOST_READ: u32 = MAX_TRANSFER as u32;
 
 /// Writes the Changed Namespace List of a controller: the NSIDs of its subsystem with a namespace
 /// change after this serial, rising, and zeros; FFFFFFFFh and zeros where there are more than 1,024.

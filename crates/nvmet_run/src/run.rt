@@ -135,8 +135,9 @@ fn run_whole<F: Files, K: Sink>(
 /// - `WriteFault`: the same of the write of the response file; or the sink failed while it took the summary.
 /// - `Memory`: memory ran out.
 ///
-/// With any status but `Fine` the sink takes the one line of that status; where it fails under it the status stays. Before
-/// the write no file is touched, and no other than the response file ever is. The call may wait.
+/// With any status but `Fine` the sink takes the one line of that status, or a front of it where it fails, which changes no
+/// status; but where it failed under the summary, it took a front of the summary, and nothing more is put. Before the
+/// write no file is touched, and no other than the response file ever is. The call may wait.
 pub fn run_plan<R: Wait + Threads + Sync, F: Files, K: Sink, G: Gate + Sync>(
     _rt: &R,
     alloc: Global,

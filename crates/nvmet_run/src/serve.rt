@@ -43,8 +43,8 @@ fn control_one(
     output.add(output.places, Kind::Control, number, &reply);
 }
 
-// Executes the command that is held, and appends its record: what a Read reads goes from the disk straight behind room for
-// the head, which is written last. Tells how many bytes that were.
+// Executes the command that is held, and appends its record: the head, which the held command tells, and behind it what a
+// Read reads, straight from the disk. Tells how many bytes that were.
 fn execute_into(
     target: &mut Target,
     queue: u32,
@@ -68,14 +68,10 @@ fn execute_into(
         (held_bytes target.old)) }
     ensures len { length to.new.bytes ≡ length to.old.bytes + (HEAD_BYTES + held_len target.old) }
 {
-    let at = to.len();
-    to.put(&[0; HEAD_BYTES]);
+    let reply = target.held_reply();
+    let given = target.held_len();
+    to.put(&write_head(&head(place, Kind::Execute, number, &reply, given)));
     let reply = target.execute(queue, number, payload, to);
-    let given = (to.len() - at - HEAD_BYTES) as u32;
-    to.write_at(
-        at,
-        &write_head(&head(place, Kind::Execute, number, &reply, given)),
-    );
     (reply, given)
 }
 
