@@ -65,11 +65,14 @@ fn a_block_is_written_and_read(rt: HostRuntime) -> Result<(), Fail> {
     assert!(rt; !target.is_lawful(&execute));
     assert_eq!(rt; target.submit(1, 0, &write), Reply::Held);
     assert!(rt; target.is_lawful(&execute));
+    assert_eq!(rt; target.held_len(), 0);
     let reply = target.execute(1, 0, &payload, &mut to);
     is_status(&rt, &reply, 3, 0);
     assert_eq!(rt; to.bytes(), b"abc".as_slice());
     let read = entry(0x02, 4);
+    assert_eq!(rt; data_len(&read), 0);
     assert_eq!(rt; target.submit(1, 1, &read), Reply::Held);
+    assert_eq!(rt; target.held_len(), 512);
     let reply = target.execute(1, 1, &[], &mut to);
     is_status(&rt, &reply, 4, 0);
     let bytes = to.bytes();
