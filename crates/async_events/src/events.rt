@@ -43,7 +43,7 @@ fn new_kind() -> Kind
     }
 }
 
-fn raised(changed: bool, kind: Kind) -> Kind
+fn raise_kind(changed: bool, kind: Kind) -> Kind
     ensures { result ≡ raise changed kind }
 {
     if changed && kind.on && !kind.masked {
@@ -82,7 +82,7 @@ fn at_changes<L: Look>(b: &Bound, seen: u32, kind: Kind, look: &mut L) -> Kind
     if !kind.on || kind.masked {
         return kind;
     }
-    raised(any_changed(b, seen, look), kind)
+    raise_kind(any_changed(b, seen, look), kind)
 }
 
 impl Events {
@@ -118,7 +118,7 @@ impl Events {
     {
         self.ns = at_changes(&c.bound, self.seen, self.ns, look);
         let stamp = look.ana_stamp(c.bound.sub, c.bound.port);
-        self.ana = raised(stamp > self.seen, self.ana);
+        self.ana = raise_kind(stamp > self.seen, self.ana);
         self.seen = look.serial();
     }
 

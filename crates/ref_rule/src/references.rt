@@ -34,7 +34,7 @@ pub fn load_mode(s: &mut State, seat: u32, disk: u32) -> Answer
     Answer::Word(mode)
 }
 
-fn counted(up: bool, count: Count) -> Count
+fn step_count(up: bool, count: Count) -> Count
     requires up { up ≡ true → count.ups + 1 < 2 ^ 64 }
     requires down { up ≡ false → count.downs + 1 < 2 ^ 64 }
     ensures { result ≡ count_after up count }
@@ -53,7 +53,7 @@ fn counted(up: bool, count: Count) -> Count
     }
 }
 
-fn added(up: bool, word: u64) -> u64
+fn step_word(up: bool, word: u64) -> u64
     ensures { result ≡ word_after up word }
 {
     if up {
@@ -64,7 +64,7 @@ fn added(up: bool, word: u64) -> u64
 }
 
 // The section, marked as having got a hold.
-fn marked(section: Section) -> Section
+fn mark_got(section: Section) -> Section
     ensures { result ≡ section_got section }
 {
     match section {
@@ -128,7 +128,7 @@ fn add_hold(s: &mut State, seat: u32, holds: Items<Hold>, up: bool)
     view.holds = holds;
     view.loaded = LoadedMode::NotLoaded;
     if up {
-        view.section = marked(view.section);
+        view.section = mark_got(view.section);
     }
 }
 
@@ -153,7 +153,7 @@ pub fn add_own(
     let holds = holds_after(alloc, s.views.at(seat as usize), disk, up)?;
     add_hold(s, seat, holds, up);
     let own = &mut s.disks.at_mut(disk as usize).own;
-    let count = counted(up, own.at_or(seat as usize, ZERO));
+    let count = step_count(up, own.at_or(seat as usize, ZERO));
     own.put(seat as usize, count);
     Ok(Answer::Nothing)
 }
@@ -176,7 +176,7 @@ pub fn add_shared(
     add_hold(s, seat, holds, up);
     let words = s.disks.at_mut(disk as usize);
     let old = words.shared;
-    words.shared = added(up, old);
+    words.shared = step_word(up, old);
     Ok(Answer::Word(old))
 }
 

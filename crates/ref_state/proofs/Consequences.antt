@@ -94,7 +94,7 @@ read_side_stays c j (SlotIn n) sound a i v s at reads = refl
 read_side_stays c j (GiveTurn n) sound a i v s at reads = refl
 
 -- the side of an open section has the words of its serial
-side_is : (c : Core) (i : ℕ) (v : View) (s : ℕ) → IsSound c → At c.views i v → Reads v s
+pub side_is : (c : Core) (i : ℕ) (v : View) (s : ℕ) → IsSound c → At c.views i v → Reads v s
     → side c s ≡ conf c.editor s
 side_is c i v s sound at reads = ⊎_elim (λ (t : s ≡ c.serial). last t) (λ (t : s + 1
     ≡ c.serial). before t c.editor.pending refl) (sound.sides.reads i v at s reads)

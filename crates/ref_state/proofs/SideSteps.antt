@@ -73,7 +73,7 @@ or_past [] i d h = refl
 or_past (y ∷ ys) zero d h = absurd (omega arith)
 or_past (y ∷ ys) (suc i) d h = or_past ys i d (omega arith)
 
-length_overlaid : (ws : List ℕ) (xs : List (ℕ × ℕ)) → length (overlaid ws xs) ≡ length ws
+pub length_overlaid : (ws : List ℕ) (xs : List (ℕ × ℕ)) → length (overlaid ws xs) ≡ length ws
 length_overlaid ws [] = refl
 length_overlaid ws (x ∷ xs) = length-set (overlaid ws xs) x.0 x.1 ∙ length_overlaid ws xs
 
