@@ -4,6 +4,7 @@ use Rattle.sqe_cqe.specs.declared.rows.Seen.{Seen}
 use Rattle.sqe_cqe.specs.declared.rows.Seen.TheVariants.{NotConfigured, Off, On}
 use Rattle.sqe_cqe.specs.declared.rows.Ana.{Ana}
 use Rattle.sqe_cqe.specs.declared.rows.Ana.TheVariants.{Optimized, NonOptimized, Inaccessible, PersistentLoss, Changing}
+use Rattle.sqe_cqe.specs.declared.rows.TheConstants.{MAX_NSID}
 use Rattle.sqe_cqe.specs.Answers.{Answers}
 use Rattle.look_tests.specs.declared.world.World.{World}
 
@@ -26,6 +27,10 @@ state_of code =
     else if code == 15 then Changing
     else Inaccessible
 
+-- no target offers more than the highest NSID
+abbrev pub offered_of : ℕ → ℕ
+offered_of nsids = if nat_lt MAX_NSID nsids then MAX_NSID else nsids
+
 abbrev pub world_answers : World → Answers
 world_answers w = record {
   ready = λ c. w.ready;
@@ -37,7 +42,7 @@ world_answers w = record {
   ana_count = w.ana_count;
   serial = w.serial;
   bars = λ c s n o. 0;
-  offers = record { nsids = w.nsids; oncs = 8; nwpc = 0; rescap = 0 };
+  offers = record { nsids = offered_of w.nsids; oncs = 8; nwpc = 0; rescap = 0 };
   marks = λ s n. 0;
   group_count = λ p s g. w.ana_count;
 }

@@ -1,8 +1,9 @@
 ghost use Rattle.std.specs.Prelude.{◌≡◌, ◌≤◌};
 ghost use Rattle.sqe_cqe.specs.Answers.{HasShape};
-ghost use Rattle.look_tests.specs.Told.{number_at, seen_of, state_of};
+ghost use Rattle.look_tests.specs.Told.{number_at, offered_of, seen_of, state_of};
+ghost use Rattle.sqe_cqe.specs.declared.rows.TheConstants.{MAX_NSID};
 
-use sqe_cqe::{Ana, Look, NsRow, Offers, Seen};
+use sqe_cqe::{Ana, Look, MAX_NSID, NsRow, Offers, Seen};
 
 /// At an NSID where no namespace is configured.
 pub const NONE: u8 = 0;
@@ -48,6 +49,14 @@ fn byte_at(list: &[u8], n: u32) -> u8
         return 0;
     }
     list[n as usize - 1]
+}
+
+// The highest NSID that is offered, where so many are wanted.
+fn offered(nsids: u32) -> u32
+    ensures value { result ≡ offered_of nsids }
+    ensures most { result ≤ MAX_NSID }
+{
+    if nsids > MAX_NSID { MAX_NSID } else { nsids }
 }
 
 fn stamp_at(list: &[u32], n: u32) -> u32
@@ -142,7 +151,7 @@ impl<'a> Look for WorldLook<'a> {
 
     fn offers(&mut self) -> Offers {
         Offers {
-            nsids: self.world.nsids,
+            nsids: offered(self.world.nsids),
             oncs: 0x0008,
             nwpc: 0,
             rescap: 0,

@@ -38,6 +38,6 @@ pub use cqe::{Cqe, read_cqe, write_cqe};
 pub use law::{connect_data_again, cqe_bytes_again, fabrics_fields_stand, sqe_bytes_again};
 pub use look::Look;
 pub use one::{OneLook, OneRow};
-pub use rows::{Ana, NsRow, Offers, Seen, ana_text_again};
+pub use rows::{Ana, MAX_NSID, NsRow, Offers, Seen, ana_text_again};
 pub use sqe::{Sqe, data_len, direction, fctype, read_sqe, write_sqe};
 pub use way::Direction;

@@ -1,11 +1,11 @@
 -- The members of groups, and the bytes of groups one after another.
-use Rattle.std.proofs.Common.{◌≡◌, ◌≢◌, ◌⊎◌, inl, inr, ℕ, zero, suc, ◌+◌, ◌≤◌, ◌<◌, nat_eq, Bool, true, false, cond, List, [], ◌∷◌, ◌++◌, length, set, get_or, replicate, sym, ap, refl, ◌∙◌, subst, arith, get_or-set_same, get_or-set_other}
+use Rattle.std.proofs.Common.{◌≡◌, ℕ, zero, suc, ◌+◌, ◌*◌, Bool, false, List, [], ◌++◌, length, get_or, replicate, sym, ap, refl, arith, length-append}
 use Rattle.std.proofs.lemmas.List.Concat.{flat_map-append}
 use Rattle.look_pages.specs.Pages.{those, words}
-use Rattle.look_pages.proofs.Walks.{words-none}
+use Rattle.look_pages.proofs.Walks.{length-words}
 use Rattle.sqe_cqe.specs.Answers.{View}
-use Rattle.ana_groups.specs.AnaPage.{members, group_bytes, groups_bytes, is_reported, reported, header_bytes}
-use Rattle.ana_groups.specs.declared.counts.TheConstants.{GROUPS}
+use Rattle.ana_groups.specs.AnaPage.{members, descriptor, group_bytes, groups_bytes, is_reported, reported, header_bytes}
+use Rattle.ana_groups.specs.declared.members.TheConstants.{GROUPS}
 
 pub groups_none : (v : View) (rgo : Bool) → groups_bytes v rgo [] ≡ []
 unfolding groups_bytes
@@ -24,14 +24,21 @@ pub length-header : (count groups : ℕ) → length (header_bytes count groups) 
 unfolding header_bytes
 length-header count groups = refl
 
--- a list with no element
-empty-list : (list : List ℕ) → 0 ≡ length list → list ≡ []
-empty-list [] e = refl
-empty-list (x ∷ list) e = absurd (omega (arith, e))
+pub length-descriptor : (v : View) (group count nsids : ℕ) → length (descriptor group nsids count (v.ana group)) ≡ 32
+unfolding descriptor
+length-descriptor v group count nsids = refl
 
--- a group with no members has no bytes for them
-pub no_members : (v : View) (group : ℕ) → 0 ≡ length (members v group) → words (members v group) ≡ []
-no_members v group e = ap words (empty-list (members v group) e) ∙ words-none
+-- a group whose NSIDs are shown
+pub length-group : (v : View) (rgo : Bool) (group : ℕ) → rgo ≡ false
+    → length (group_bytes v rgo group) ≡ 32 + 4 * length (members v group)
+unfolding group_bytes
+length-group v rgo group shown = rw shown
+    omega (
+      arith,
+      length-descriptor v group (v.group_count group) (length (members v group)),
+      length-words (members v group),
+      length-append (descriptor group (length (members v group)) (v.group_count group) (v.ana group)) (words (members v group)),
+    )
 
 -- each number of a list of zeros
 pub get_or-zeros : (n k : ℕ) → get_or (replicate {A = ℕ} n 0) k 0 ≡ 0
