@@ -10,6 +10,7 @@
 mod disks;
 mod law;
 mod limits;
+mod linked_rows;
 mod names;
 mod namespaces;
 mod nqn;
