@@ -20,7 +20,6 @@ use Rattle.configfs_tree.specs.Standing.{Placed, placed_row, placed_in, placed, 
 use Rattle.configfs_rows.specs.declared.limits.TheConstants.{MAX_SUBSYSTEMS, MAX_PORTS}
 use Rattle.configfs_rows.specs.declared.disks.DiskRow.{DiskRow}
 use Rattle.configfs_rows.specs.declared.disks.Holder.{Holder}
-use Rattle.configfs_tree.specs.declared.edits.Errno.{Errno}
 use Rattle.configfs_rows.specs.declared.namespaces.NamespaceRow.{NamespaceRow}
 use Rattle.configfs_rows.specs.declared.subsystems.SubsystemRow.{SubsystemRow}
 use Rattle.sqe_cqe.specs.declared.rows.Ana.{Ana}
@@ -29,18 +28,15 @@ use Rattle.configfs_tree.specs.declared.configuration.Configuration.{Configurati
 use Rattle.configfs_tree.specs.declared.configuration.Attached.{Attached}
 use Rattle.configfs_rows.proofs.Gets.{some_same, none_some, cases_key, get-insert_at, get-insert_beside, get-remove_at, get-remove_beside, get-update_at, get-update_beside}
 use Rattle.configfs_tree.proofs.Kept.{names_same, none_of_test, placed_made, placed_removed, placed_others, placed_here, placed_was, subsystems_changed, count_changed, subsystem_put, namespace_put, namespace_free, port_put, one_put, one_removed}
-use Rattle.configfs_tree.proofs.Holds.{Holds, refuses, accepted, holds_row, holds_end, holds_last, holds_either, holds_unless, holds_if_subsystem, holds_if_namespace, holds_if_port, holds_if_group, holds_parsed}
+use Rattle.configfs_tree.proofs.Holds.{Holds, refuses, holds_row, holds_end, holds_last, holds_either, holds_unless, holds_if_subsystem, holds_if_rows, holds_if_port, holds_if_group, holds_parsed}
 use Rattle.configfs_rows.proofs.Placing.{places_inserted, places_removed, places_updated, place_is_free, stands_at_none}
 use Rattle.configfs_tree.proofs.Held.{here, moved_same, enabled_kept, drained_kept, holder_holds, holding}
-use Rattle.std.specs.Prelude.{OnOk, OnErr, IfOk}
+use Rattle.std.specs.Prelude.{OnOk, OnErr}
 use Rattle.mem_bdev.specs.declared.disk.DiskLine.{DiskLine}
-use Rattle.configfs_tree.specs.declared.edits.Change.{Change}
-use Rattle.configfs_tree.specs.declared.edits.Refused.{Refused}
-use Rattle.configfs_tree.specs.declared.edits.Refused.TheVariants as refused
 use Rattle.configfs_rows.specs.declared.namespaces.Phase.TheVariants as phase
-use Rattle.configfs_tree.specs.Gives.{Gives, GivesErrno}
-use Rattle.configfs_tree.specs.Phases.{phase_from, phase_of_some, phase_in, phase_at}
-use Rattle.configfs_tree.specs.Drained.{freed_path, freed_by, freed_in, drained}
+use Rattle.configfs_tree.specs.Phases.{phase_from, phase_of_rows, phase_at}
+use Rattle.configfs_tree.specs.NamespaceRows.{paired, rows_in}
+use Rattle.configfs_tree.specs.Drained.{freed_path, freed_by, drained}
 use Rattle.configfs_tree.specs.Start.{free_disk, empty_tree}
 use Rattle.configfs_tree.specs.Links.{allowed_in, linked_in, with_attached, with_no_changes}
 use Rattle.configfs_tree.specs.Standing.{AnotherHas, HeldMeansAnother}
@@ -202,13 +198,12 @@ free_of t s nsid n m found e free f = subst (λ (x : NamespaceRow). holds_path t
 k_rmdir_namespace : (t : Configuration) (sub : List ℕ) (nsid : ℕ) → IsPlaced t
     → Keeps (rmdir_namespace t sub nsid)
 unfolding rmdir_namespace
-k_rmdir_namespace t sub nsid h = holds_if_subsystem _ _ (λ s e. holds_if_namespace _ _
-    (λ n f. holds_last _ _ _ _ (λ free.
+k_rmdir_namespace t sub nsid h = holds_if_rows _ _ _ (λ s e n f. holds_last _ _ _ _ (λ free.
     namespace_free t sub nsid (λ ns. map.remove ns nsid) s e
     (λ ns j ne. get-remove_beside nat_cmp_total nat_cmp-IsAntisymmetric ns nsid j ne)
     (λ m found. free_of t s nsid n m (map.get s.namespaces nsid) f free found)
     (λ m found. absurd (none_some m (sym (get-remove_at nat_cmp_total nat_cmp-IsAntisymmetric
-    s.namespaces nsid) ∙ found))) h)))
+    s.namespaces nsid) ∙ found))) h))
 
 k_rmdir_port : (t : Configuration) (id : ℕ) → IsPlaced t → Keeps (rmdir_port t id)
 unfolding rmdir_port
@@ -266,7 +261,7 @@ k_set_device_path : (t : Configuration) (sub : List ℕ) (nsid : ℕ) (value : L
     → Keeps (set_device_path t sub nsid value)
 unfolding set_device_path
 k_set_device_path t sub nsid value h =
-    holds_if_subsystem _ _ (λ s e. holds_if_namespace _ _ (λ n f. holds_row _ _ _ _
+    holds_if_rows _ _ _ (λ s e n f. holds_row _ _ _ _
     (λ free. holds_end _ _ _ (λ _. holds_unless _ t _ _ h (λ _.
     namespace_free t sub nsid (λ ns. update_at ns nsid (put_in
     (Path value (number_of value (paths_of t.disks))))) s e
@@ -277,17 +272,17 @@ k_set_device_path t sub nsid value h =
     (put_in (Path value (number_of value (paths_of t.disks))) n) m
     (sym (get-update_at nat_cmp_total nat_cmp-IsAntisymmetric s.namespaces nsid
     (put_in (Path value (number_of value (paths_of t.disks)))) n f) ∙ found)))
-    ∙ left_false n.enabled (holds_path t.disks s.at nsid n.device_path) free) h)))))
+    ∙ left_false n.enabled (holds_path t.disks s.at nsid n.device_path) free) h))))
 
 k_set_identifier : (t : Configuration) (sub : List ℕ) (nsid : ℕ) (which : Identifier)
     (value : List ℕ) → IsPlaced t → Keeps (set_identifier t sub nsid which value)
 unfolding set_identifier
 k_set_identifier t sub nsid which value h =
-    holds_if_subsystem _ _ (λ s e. holds_if_namespace _ _ (λ n f. holds_end _ _ _
+    holds_if_rows _ _ _ (λ s e n f. holds_end _ _ _
     (λ _. holds_parsed (parsed value) (λ (bytes : List ℕ). unless_stands
     (bytes_eq (identifier_of which n) bytes) t (put_on t sub s.at nsid (NewIdentifier which bytes)))
     (λ bytes. holds_unless _ t _ _ h (λ _.
-    namespace_put t sub nsid (NewIdentifier which bytes) s n e f refl (λ on. on) h)))))
+    namespace_put t sub nsid (NewIdentifier which bytes) s n e f refl (λ on. on) h))))
 
 keeps_group_of : (t : Configuration) (sub : List ℕ) (nsid : ℕ) (s : SubsystemRow) (n : NamespaceRow)
     (group : Option ℕ) → map.get t.settings.subsystems sub ≡ Some s
@@ -301,8 +296,7 @@ keeps_group_of t sub nsid s n (Some group) e f h =
 k_set_ana_grpid : (t : Configuration) (sub : List ℕ) (nsid : ℕ) (value : List ℕ) → IsPlaced t
     → Keeps (set_ana_grpid t sub nsid value)
 unfolding set_ana_grpid
-k_set_ana_grpid t sub nsid value h = holds_if_subsystem _ _ (λ s e. holds_if_namespace _ _
-    (λ n f. keeps_group_of t sub nsid s n (group_named value) e f h))
+k_set_ana_grpid t sub nsid value h = holds_if_rows _ _ _ (λ s e n f. keeps_group_of t sub nsid s n (group_named value) e f h)
 
 -- the disk of a path that is free
 record FreeDisk (disks : List DiskRow) (q : Option (List ℕ)) : Type 0 where
@@ -376,11 +370,10 @@ keeps_disabled t sub nsid s n e f h = holds_unless _ t _ _ h
 pub k_set_enable : (t : Configuration) (sub : List ℕ) (nsid : ℕ) (value : List ℕ) → IsPlaced t
     → Keeps (set_enable t sub nsid value)
 unfolding set_enable
-k_set_enable t sub nsid value h = holds_if_subsystem _ _ (λ s e. holds_if_namespace _ _
-    (λ n f. holds_either _ _ _
+k_set_enable t sub nsid value h = holds_if_rows _ _ _ (λ s e n f. holds_either _ _ _
     (keeps_disabled t sub nsid s n e f h)
     (holds_row _ _ _ _ (λ _. holds_row _ _ _ _ (λ _. holds_row _ _ _ _
-    (λ named. holds_end _ _ _ (λ unheld. keeps_enabled t sub nsid s n e f named unheld h)))))))
+    (λ named. holds_end _ _ _ (λ unheld. keeps_enabled t sub nsid s n e f named unheld h))))))
 
 k_set_of_namespace : (t : Configuration) (sub : List ℕ) (nsid : ℕ) (a : Attr) (value : List ℕ)
     → IsPlaced t → Keeps (set_of_namespace t sub nsid a value)
@@ -570,8 +563,8 @@ free_path_stands t sub nsid s n (Some path) e f is off held h =
 
 free_row_stands : (t : Configuration) (sub : List ℕ) (nsid : ℕ) (s : SubsystemRow)
     (n : Option NamespaceRow) → map.get t.settings.subsystems sub ≡ Some s
-    → map.get s.namespaces nsid ≡ n → phase_of_some t s nsid n ≡ Some phase.Draining → IsPlaced t
-    → IsPlaced (freed_by t n)
+    → map.get s.namespaces nsid ≡ n → phase_of_rows t nsid (paired s n) ≡ Some phase.Draining
+    → IsPlaced t → IsPlaced (freed_by t (paired s n))
 free_row_stands t sub nsid s None e f is h = h
 free_row_stands t sub nsid s (Some n) e f is h =
     let d = drain_of n.enabled (holds_path t.disks s.at nsid n.device_path)
@@ -580,8 +573,9 @@ free_row_stands t sub nsid s (Some n) e f is h =
     free_path_stands t sub nsid s n n.device_path e f refl d.off d.held h
 
 free_in_stands : (t : Configuration) (sub : List ℕ) (nsid : ℕ) (found : Option SubsystemRow)
-    → map.get t.settings.subsystems sub ≡ found → phase_in t nsid found ≡ Some phase.Draining
-    → IsPlaced t → IsPlaced (freed_in t nsid found)
+    → map.get t.settings.subsystems sub ≡ found
+    → phase_of_rows t nsid (rows_in nsid found) ≡ Some phase.Draining → IsPlaced t
+    → IsPlaced (freed_by t (rows_in nsid found))
 free_in_stands t sub nsid None e is h = h
 free_in_stands t sub nsid (Some s) e is h =
     free_row_stands t sub nsid s (map.get s.namespaces nsid) e refl is h

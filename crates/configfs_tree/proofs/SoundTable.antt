@@ -1,9 +1,8 @@
 -- Each accepted edit keeps what stands of the rows.
 use Rattle.std.proofs.Common.{◌≡◌, ℕ, ◌&&◌, ◌||◌, ◌<◌, ◌≤◌, ◌+◌, ◌==◌, zero, suc, not, Bool, true, false, cond, List, [], ◌∷◌, length, Option, Some, None, is_some, nat_lt, nat_le, refl, sym, ap, subst, ◌∙◌, IsTrue, arith, codes}
 use mathlib.Core.Logic.{⊎_elim}
-use Rattle.std.specs.List.{list_any}
 use Rattle.std.specs.Str.{bytes_eq}
-use Rattle.std.proofs.lemmas.Bool.{both_ways, lt-ltb, ltb-true, ltb-false, leb-true, lt-leb, le-leb, not-false, eq-eqb}
+use Rattle.std.proofs.lemmas.Bool.{both_ways, lt-ltb, ltb-true, ltb-false, le-leb}
 use Rattle.std.specs.Ordering.{nat_cmp}
 use Rattle.std.specs.declared.cmp.Ordering.{Ordering}
 use Rattle.std.specs.Cmp.{nat_cmp_total}
@@ -16,13 +15,13 @@ use Rattle.sqe_cqe.specs.declared.rows.Ana.{Ana}
 use Rattle.sqe_cqe.specs.declared.rows.Ana.TheVariants as state
 use Rattle.configfs_rows.specs.declared.limits.TheConstants.{MAX_HOSTS, MAX_SUBSYSTEMS, MAX_PORTS, MAX_NSID, MAX_ANA_GROUPS, SERIAL_LEN, MODEL_LEN, TRADDR_LEN, TRSVCID_LEN}
 use Rattle.configfs_rows.specs.Nqns.{name_order, is_nqn, discovery_nqn}
-use Rattle.configfs_rows.specs.Maps.{update_at, kept_or_taken}
+use Rattle.configfs_rows.specs.Maps.{update_at}
 use Rattle.configfs_rows.specs.Rows.{put_in, fresh_namespace}
-use Rattle.configfs_rows.specs.Subsystems.{fresh_subsystem, put_in_subsystem, put_allowed, put_namespace, add_namespace, remove_namespace}
-use Rattle.configfs_rows.specs.Ports.{fresh_port, address_of, with_address, put_link, put_group, remove_group}
+use Rattle.configfs_rows.specs.Subsystems.{fresh_subsystem, put_in_subsystem, put_namespace, add_namespace, remove_namespace}
+use Rattle.configfs_rows.specs.Ports.{fresh_port, address_of, with_address, put_group, remove_group}
 use Rattle.configfs_rows.specs.Places.{lowest_free}
-use Rattle.configfs_rows.specs.Holders.{hold, number_of, disk_number, paths_of, disk_path, are_apart, path_or_empty}
-use Rattle.configfs_rows.specs.Values.{is_text, is_short, is_path, is_trtype, is_adrfam, is_treq, group_named}
+use Rattle.configfs_rows.specs.Holders.{hold, number_of, paths_of, are_apart, path_or_empty}
+use Rattle.configfs_rows.specs.Values.{is_text, is_short, is_path, is_trtype, group_named}
 use Rattle.configfs_rows.specs.declared.disks.DiskRow.{DiskRow}
 use Rattle.configfs_rows.specs.declared.disks.Holder.{Holder}
 use Rattle.configfs_rows.specs.declared.namespaces.NamespaceRow.{NamespaceRow}
@@ -43,18 +42,18 @@ use Rattle.configfs_tree.specs.declared.edits.Folder.TheVariants as folder
 use Rattle.configfs_tree.specs.declared.edits.FolderEdit.{FolderEdit}
 use Rattle.configfs_tree.specs.declared.edits.FolderEdit.TheVariants as edit
 use Rattle.configfs_tree.specs.declared.configuration.Configuration.{Configuration}
-use Rattle.configfs_tree.specs.Asked.{fits, has_name, is_named, is_fitting, some_port_links, some_subsystem_allows, controller_at_subsystem, subsystem_place_taken, port_place_taken}
+use Rattle.configfs_tree.specs.Asked.{fits, has_name, is_named, is_fitting, some_port_links, controller_at_subsystem, subsystem_place_taken, port_place_taken}
 use Rattle.configfs_tree.specs.Outcome.{Outcome, unless_stands, with_settings, on_subsystem, on_port, counted}
-use Rattle.configfs_tree.specs.Sound.{NamespaceStands, SubsystemStands, PortStands, EachSubsystem, IsSound, Hosts, is_address, is_kept_path}
-use Rattle.configfs_tree.specs.Table.{mkdir, rmdir, set, set_of_subsystem, set_of_namespace, set_of_port, set_of_group, edit_outcome, put_on, put_group_of, put_state, set_address, disabled, enabled}
+use Rattle.configfs_tree.specs.Sound.{NamespaceStands, SubsystemStands, PortStands, EachSubsystem, IsSound, Hosts, is_address}
+use Rattle.configfs_tree.specs.Table.{mkdir, rmdir, set, set_of_subsystem, set_of_namespace, set_of_port, set_of_group, edit_outcome, put_on, put_group_of, put_state, set_address}
 use Rattle.configfs_tree.specs.Table.{mkdir_host, mkdir_subsystem, mkdir_namespace, mkdir_port, mkdir_ana_group, rmdir_host, rmdir_subsystem, rmdir_namespace, rmdir_port, rmdir_ana_group}
 use Rattle.configfs_tree.specs.Table.{set_attr_allow_any_host, set_attr_serial, set_attr_model, set_device_path, set_identifier, set_ana_grpid, set_enable, set_addr_trtype, set_addr_adrfam, set_addr_treq, set_addr_traddr, set_addr_trsvcid, set_ana_state}
 use Rattle.configfs_rows.proofs.Gets.{some_same, none_some}
-use Rattle.configfs_rows.proofs.Texts.{left_true, right_true, group_in_range}
-use Rattle.configfs_rows.proofs.Each.{EachRow, each_inserted, each_removed, each_updated, had_inserted, had_removed, had_updated, has_inserted, has_removed, none_there, len_inserted, len_removed, none_passing}
-use Rattle.configfs_tree.proofs.Kept.{Rows, names_same, none_of_test}
+use Rattle.configfs_rows.proofs.Texts.{right_true, group_in_range}
+use Rattle.configfs_rows.proofs.Each.{each_inserted, each_removed, each_updated, had_inserted, had_removed, had_updated, has_inserted, has_removed, none_there, len_inserted, len_removed, none_passing}
+use Rattle.configfs_tree.proofs.Kept.{Rows, names_same}
 use Rattle.configfs_tree.proofs.Slots.{Ports}
-use Rattle.configfs_tree.proofs.Holds.{Holds, refuses, holds_row, holds_end, holds_last, holds_either, holds_unless, holds_if_subsystem, holds_if_namespace, holds_if_port, holds_if_group, holds_parsed}
+use Rattle.configfs_tree.proofs.Holds.{Holds, refuses, holds_row, holds_end, holds_last, holds_either, holds_unless, holds_if_subsystem, holds_if_rows, holds_if_port, holds_if_group, holds_parsed}
 
 abbrev pub Sounds : Outcome → Type 0
 Sounds o = Holds (λ u change. IsSound u) o
@@ -424,12 +423,11 @@ f_rmdir_subsystem t sub s = holds_if_subsystem _ _ (λ x e. holds_row _ _ _ _
 f_rmdir_namespace : (t : Configuration) (sub : List ℕ) (nsid : ℕ) → IsSound t
     → Sounds (rmdir_namespace t sub nsid)
 unfolding rmdir_namespace
-f_rmdir_namespace t sub nsid s = holds_if_subsystem _ _ (λ row e. holds_if_namespace _ _
-    (λ n f. holds_last _ _ _ _ (λ _.
+f_rmdir_namespace t sub nsid s = holds_if_rows _ _ _ (λ row e n f. holds_last _ _ _ _ (λ _.
     subsystem_sound t sub (remove_namespace nsid)
     (λ x _ h. spaces_stand t.settings.hosts (paths_of t.disks) sub x (map.remove x.namespaces nsid)
     (each_removed nat_cmp_total nat_cmp-IsAntisymmetric (λ (j : ℕ) (r : NamespaceRow).
-    NamespaceStands (paths_of t.disks) j r) x.namespaces nsid h.namespaces) h) s)))
+    NamespaceStands (paths_of t.disks) j r) x.namespaces nsid h.namespaces) h) s))
 
 f_rmdir_port : (t : Configuration) (id : ℕ) → IsSound t → Sounds (rmdir_port t id)
 unfolding rmdir_port
@@ -527,7 +525,7 @@ f_set_device_path : (t : Configuration) (sub : List ℕ) (nsid : ℕ) (value : L
     → IsTrue (is_text value) → IsSound t → Sounds (set_device_path t sub nsid value)
 unfolding set_device_path
 f_set_device_path t sub nsid value text s =
-    holds_if_subsystem _ _ (λ r e. holds_if_namespace _ _ (λ n f. holds_row _ _ _ _
+    holds_if_rows _ _ _ (λ r e n f. holds_row _ _ _ _
     (λ _. holds_end _ _ _ (λ good. holds_unless _ t _ _ s (λ _.
     space_sound t sub nsid (Path value (number_of value (paths_of t.disks)))
     (λ m h. record {
@@ -538,13 +536,13 @@ f_set_device_path t sub nsid value text s =
       path = both (is_text value) (is_path value) text
           (not_no (is_path value) good);
       disk = refl;
-    }) s)))))
+    }) s))))
 
 f_set_identifier : (t : Configuration) (sub : List ℕ) (nsid : ℕ) (which : Identifier)
     (value : List ℕ) → IsSound t → Sounds (set_identifier t sub nsid which value)
 unfolding set_identifier
 f_set_identifier t sub nsid which value s =
-    holds_if_subsystem _ _ (λ r e. holds_if_namespace _ _ (λ n f. holds_end _ _ _
+    holds_if_rows _ _ _ (λ r e n f. holds_end _ _ _
     (λ _. holds_parsed (parsed value) (λ (bytes : List ℕ). unless_stands
     (bytes_eq (identifier_of which n) bytes) t (put_on t sub r.at nsid (NewIdentifier which bytes)))
     (λ bytes. holds_unless _ t _ _ s (λ _.
@@ -555,7 +553,7 @@ f_set_identifier t sub nsid which value s =
       group_high = h.group_high;
       path = h.path;
       disk = h.disk;
-    }) s)))))
+    }) s))))
 
 sounds_group_of : (t : Configuration) (sub : List ℕ) (nsid : ℕ) (r : SubsystemRow)
     (n : NamespaceRow) (value : List ℕ) (group : Option ℕ) → group_named value ≡ group → IsSound t
@@ -577,8 +575,7 @@ sounds_group_of t sub nsid r n value (Some group) named s = holds_unless _ t _ _
 f_set_ana_grpid : (t : Configuration) (sub : List ℕ) (nsid : ℕ) (value : List ℕ) → IsSound t
     → Sounds (set_ana_grpid t sub nsid value)
 unfolding set_ana_grpid
-f_set_ana_grpid t sub nsid value s = holds_if_subsystem _ _ (λ r e. holds_if_namespace _ _
-    (λ n f. sounds_group_of t sub nsid r n value (group_named value) refl s))
+f_set_ana_grpid t sub nsid value s = holds_if_rows _ _ _ (λ r e n f. sounds_group_of t sub nsid r n value (group_named value) refl s)
 
 enabled_sound : (t : Configuration) (sub : List ℕ) (nsid : ℕ) (on : Bool) → IsSound t
     → IsSound (on_subsystem t sub (put_namespace nsid (Enabled on)))
@@ -595,8 +592,7 @@ enabled_sound t sub nsid on s = space_sound t sub nsid (Enabled on) (λ m h. rec
 pub f_set_enable : (t : Configuration) (sub : List ℕ) (nsid : ℕ) (value : List ℕ) → IsSound t
     → Sounds (set_enable t sub nsid value)
 unfolding set_enable
-f_set_enable t sub nsid value s = holds_if_subsystem _ _ (λ r e. holds_if_namespace _ _
-    (λ n f. holds_either _ _ _
+f_set_enable t sub nsid value s = holds_if_rows _ _ _ (λ r e n f. holds_either _ _ _
     (holds_unless _ t _ _ s (λ _. enabled_sound t sub nsid false s))
     (holds_row _ _ _ _ (λ _. holds_row _ _ _ _ (λ _. holds_row _ _ _ _
     (λ _. holds_end _ _ _ (λ _. holds_unless _ t _ _ s (λ _.
@@ -604,7 +600,7 @@ f_set_enable t sub nsid value s = holds_if_subsystem _ _ (λ r e. holds_if_names
     (path_or_empty n.device_path) (Some (record {
       sub = r.at;
       nsid = nsid;
-    })) (enabled_sound t sub nsid true s)))))))))
+    })) (enabled_sound t sub nsid true s))))))))
 
 f_set_of_namespace : (t : Configuration) (sub : List ℕ) (nsid : ℕ) (a : Attr) (value : List ℕ)
     → IsTrue (is_text value) → IsSound t → Sounds (set_of_namespace t sub nsid a value)

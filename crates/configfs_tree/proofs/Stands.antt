@@ -1,9 +1,7 @@
 -- Each call of a tree keeps its standing facts.
-use Rattle.std.proofs.Common.{◌≡◌, ℕ, ◌&&◌, ◌==◌, ◌≤◌, Bool, true, false, List, [], ◌∷◌, length, map as map_list, Option, Some, None, is_some, nat_le, refl, sym, ap, subst, ◌∙◌, IsTrue, arith, Result, Ok, Err, codes}
+use Rattle.std.proofs.Common.{◌≡◌, ℕ, ◌==◌, ◌≤◌, Bool, true, false, List, [], ◌∷◌, length, map as map_list, Option, Some, None, is_some, nat_le, refl, sym, ap, subst, ◌∙◌, IsTrue, arith, Result, Ok, Err, codes}
 use mathlib.Core.Logic.{⊎_elim}
 use Rattle.std.specs.Prelude.{OnOk, OnErr, IfOk}
-use Rattle.std.specs.List.{find}
-use Rattle.std.specs.Str.{bytes_eq}
 use Rattle.std.proofs.lemmas.Slice.Eq.{bytes_eq-Decides}
 use Rattle.std.proofs.lemmas.Bool.{both_ways, leb-true}
 use Rattle.std.proofs.lemmas.List.{length-map}
@@ -13,9 +11,8 @@ use Rattle.std.specs.Cmp.Lexicographic.{nat_list_cmp_total}
 use Rattle.std.specs.FinMap as map
 use Rattle.std.specs.FinMap.{FinMap, nat_cmp-IsAntisymmetric}
 use Rattle.mem_bdev.specs.declared.disk.DiskLine.{DiskLine}
-use Rattle.configfs_rows.specs.declared.limits.TheConstants.{MAX_DISKS, MAX_SUBSYSTEMS, MAX_PORTS}
+use Rattle.configfs_rows.specs.declared.limits.TheConstants.{MAX_DISKS}
 use Rattle.configfs_rows.specs.Nqns.{name_order}
-use Rattle.configfs_rows.specs.Maps.{kept_or_taken}
 use Rattle.configfs_rows.specs.Subsystems.{put_allowed}
 use Rattle.configfs_rows.specs.Ports.{put_link, address_of}
 use Rattle.configfs_rows.specs.Holders.{are_apart, paths_of}
@@ -33,7 +30,8 @@ use Rattle.configfs_tree.specs.declared.edits.Refused.TheVariants as refused
 use Rattle.configfs_tree.specs.declared.edits.FolderEdit.{FolderEdit}
 use Rattle.configfs_rows.specs.declared.namespaces.Phase.TheVariants as phase
 use Rattle.configfs_tree.specs.Asked.{is_fitting, is_named, may_grow}
-use Rattle.configfs_tree.specs.Drained.{freed_path, freed_by, freed_in, drained}
+use Rattle.configfs_tree.specs.NamespaceRows.{rows_of}
+use Rattle.configfs_tree.specs.Drained.{freed_path, freed_by, drained}
 use Rattle.configfs_tree.specs.Gives.{Gives, GivesErrno}
 use Rattle.configfs_tree.specs.Links.{allowed_in, linked_in, subsystem_row, port_row, allows_any, is_loop, with_no_changes}
 use Rattle.configfs_tree.specs.Outcome.{Outcome, with_settings}
@@ -108,20 +106,16 @@ freed_sound : (t : Configuration) (q : Option (List ℕ)) → IsSound t → IsSo
 freed_sound t None s = s
 freed_sound t (Some path) s = disks_held t path None s
 
-freed_by_sound : (t : Configuration) (n : Option NamespaceRow) → IsSound t → IsSound (freed_by t n)
+freed_by_sound : (t : Configuration) (found : Option (SubsystemRow × NamespaceRow)) → IsSound t
+    → IsSound (freed_by t found)
 freed_by_sound t None s = s
-freed_by_sound t (Some n) s = freed_sound t n.device_path s
-
-freed_in_sound : (t : Configuration) (nsid : ℕ) (x : Option SubsystemRow) → IsSound t
-    → IsSound (freed_in t nsid x)
-freed_in_sound t nsid None s = s
-freed_in_sound t nsid (Some x) s = freed_by_sound t (map.get x.namespaces nsid) s
+freed_by_sound t (Some rows) s = freed_sound t rows.1.device_path s
 
 pub drain_stands : (t : Configuration) (sub : List ℕ) (nsid : ℕ)
     → phase_at t sub nsid ≡ Some phase.Draining → IsStanding t → IsStanding (drained t sub nsid)
 drain_stands t sub nsid draining h = record {
   placed = drained_stands t sub nsid draining h.placed;
-  sound = freed_in_sound t nsid (map.get t.settings.subsystems sub) h.sound;
+  sound = freed_by_sound t (rows_of t.settings sub nsid) h.sound;
 }
 
 -- ---- counts

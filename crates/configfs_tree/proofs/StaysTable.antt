@@ -1,8 +1,7 @@
 -- Each accepted edit leaves the rows where controllers are attached.
-use Rattle.std.proofs.Common.{◌≡◌, ℕ, ◌&&◌, ◌||◌, ◌≤◌, nat_lt, nat_le, Bool, true, false, cond, List, Option, Some, None, refl, sym, ap, subst, ◌∙◌, arith, codes}
+use Rattle.std.proofs.Common.{◌≡◌, ℕ, ◌||◌, Bool, true, false, List, Option, Some, None, refl, ap, ◌∙◌, codes}
 use Rattle.std.specs.Str.{bytes_eq}
 use Rattle.std.proofs.lemmas.Bool.{both_ways}
-use Rattle.std.specs.Ordering.{nat_cmp}
 use Rattle.std.specs.Cmp.{nat_cmp_total}
 use Rattle.std.specs.Cmp.Lexicographic.{nat_list_cmp_total}
 use Rattle.std.specs.FinMap as map
@@ -10,7 +9,6 @@ use Rattle.std.specs.FinMap.{nat_cmp-IsAntisymmetric}
 use Rattle.uuid.specs.Text.{parsed}
 use Rattle.configfs_rows.specs.declared.limits.TheConstants.{MAX_SUBSYSTEMS, MAX_PORTS}
 use Rattle.configfs_rows.specs.Maps.{update_at}
-use Rattle.configfs_rows.specs.Rows.{put_in, fresh_namespace}
 use Rattle.configfs_rows.specs.Subsystems.{fresh_subsystem, put_in_subsystem, put_namespace, add_namespace, remove_namespace}
 use Rattle.configfs_rows.specs.Ports.{fresh_port, with_address, put_group, remove_group}
 use Rattle.configfs_rows.specs.Places.{lowest_free}
@@ -42,10 +40,9 @@ use Rattle.configfs_tree.specs.declared.edits.Folder.{Folder}
 use Rattle.configfs_tree.specs.declared.edits.Folder.TheVariants as folder
 use Rattle.configfs_tree.specs.declared.edits.FolderEdit.{FolderEdit}
 use Rattle.configfs_tree.specs.declared.edits.FolderEdit.TheVariants as edit
-use Rattle.configfs_rows.proofs.Gets.{some_same, none_some}
 use Rattle.configfs_tree.proofs.Kept.{Rows, names_same, none_of_test}
 use Rattle.configfs_tree.proofs.Slots.{Ports}
-use Rattle.configfs_tree.proofs.Holds.{Holds, refuses, holds_row, holds_end, holds_last, holds_either, holds_unless, holds_if_subsystem, holds_if_namespace, holds_if_port, holds_if_group, holds_parsed}
+use Rattle.configfs_tree.proofs.Holds.{Holds, refuses, holds_row, holds_end, holds_last, holds_either, holds_unless, holds_if_subsystem, holds_if_rows, holds_if_port, holds_if_group, holds_parsed}
 use Rattle.configfs_tree.specs.Stays.{is_subsystem_attached, is_port_attached, SubsystemAt, PortAt, Stays}
 use Rattle.configfs_rows.proofs.Each.{RowAt, StaysAt, stays_inserted, stays_removed, stays_updated}
 
@@ -184,9 +181,8 @@ s_rmdir_subsystem t sub = holds_if_subsystem _ _ (λ s e. holds_row _ _ _ _
 s_rmdir_namespace : (t : Configuration) (sub : List ℕ) (nsid : ℕ)
     → StaysBy t (rmdir_namespace t sub nsid)
 unfolding rmdir_namespace
-s_rmdir_namespace t sub nsid = holds_if_subsystem _ _ (λ s e. holds_if_namespace _ _
-    (λ n f. holds_last _ _ _ _ (λ free.
-    sub_put t sub (remove_namespace nsid) t.disks t.settings.ana_count (λ x. refl))))
+s_rmdir_namespace t sub nsid = holds_if_rows _ _ _ (λ s e n f. holds_last _ _ _ _ (λ free.
+    sub_put t sub (remove_namespace nsid) t.disks t.settings.ana_count (λ x. refl)))
 
 s_rmdir_port : (t : Configuration) (id : ℕ) → StaysBy t (rmdir_port t id)
 unfolding rmdir_port
@@ -237,19 +233,18 @@ plain_put t sub nsid put disks = sub_put t sub (put_namespace nsid put) disks t.
 s_set_device_path : (t : Configuration) (sub : List ℕ) (nsid : ℕ) (value : List ℕ)
     → StaysBy t (set_device_path t sub nsid value)
 unfolding set_device_path
-s_set_device_path t sub nsid value = holds_if_subsystem _ _ (λ s e. holds_if_namespace _ _
-    (λ n f. holds_row _ _ _ _ (λ free. holds_end _ _ _ (λ _. holds_unless _ t _ _ (stays t)
-    (λ _. plain_put t sub nsid (Path value (number_of value (paths_of t.disks))) t.disks)))))
+s_set_device_path t sub nsid value = holds_if_rows _ _ _ (λ s e n f. holds_row _ _ _ _ (λ free. holds_end _ _ _ (λ _. holds_unless _ t _ _ (stays t)
+    (λ _. plain_put t sub nsid (Path value (number_of value (paths_of t.disks))) t.disks))))
 
 s_set_identifier : (t : Configuration) (sub : List ℕ) (nsid : ℕ) (which : Identifier)
     (value : List ℕ) → StaysBy t (set_identifier t sub nsid which value)
 unfolding set_identifier
 s_set_identifier t sub nsid which value =
-    holds_if_subsystem _ _ (λ s e. holds_if_namespace _ _ (λ n f. holds_end _ _ _
+    holds_if_rows _ _ _ (λ s e n f. holds_end _ _ _
     (λ _. holds_parsed (parsed value) (λ (bytes : List ℕ). unless_stands
     (bytes_eq (identifier_of which n) bytes) t (put_on t sub s.at nsid (NewIdentifier which bytes)))
     (λ bytes. holds_unless _ t _ _ (stays t) (λ _. plain_put t sub nsid (NewIdentifier which bytes)
-    t.disks)))))
+    t.disks))))
 
 s_group_of : (t : Configuration) (sub : List ℕ) (nsid : ℕ) (s : SubsystemRow) (n : NamespaceRow)
     (group : Option ℕ) → StaysBy t (put_group_of t sub nsid s n group)
@@ -261,18 +256,16 @@ s_group_of t sub nsid s n (Some group) =
 s_set_ana_grpid : (t : Configuration) (sub : List ℕ) (nsid : ℕ) (value : List ℕ)
     → StaysBy t (set_ana_grpid t sub nsid value)
 unfolding set_ana_grpid
-s_set_ana_grpid t sub nsid value = holds_if_subsystem _ _ (λ s e. holds_if_namespace _ _
-    (λ n f. s_group_of t sub nsid s n (group_named value)))
+s_set_ana_grpid t sub nsid value = holds_if_rows _ _ _ (λ s e n f. s_group_of t sub nsid s n (group_named value))
 
 s_set_enable : (t : Configuration) (sub : List ℕ) (nsid : ℕ) (value : List ℕ)
     → StaysBy t (set_enable t sub nsid value)
 unfolding set_enable
-s_set_enable t sub nsid value = holds_if_subsystem _ _ (λ s e. holds_if_namespace _ _
-    (λ n f. holds_either _ _ _
+s_set_enable t sub nsid value = holds_if_rows _ _ _ (λ s e n f. holds_either _ _ _
     (holds_unless _ t _ _ (stays t) (λ _. plain_put t sub nsid (Enabled false) t.disks))
     (holds_row _ _ _ _ (λ _. holds_row _ _ _ _ (λ _. holds_row _ _ _ _
     (λ _. holds_end _ _ _ (λ _. holds_unless _ t _ _ (stays t)
-    (λ _. plain_put t sub nsid (Enabled true) _))))))))
+    (λ _. plain_put t sub nsid (Enabled true) _)))))))
 
 s_set_of_namespace : (t : Configuration) (sub : List ℕ) (nsid : ℕ) (a : Attr) (value : List ℕ)
     → StaysBy t (set_of_namespace t sub nsid a value)
