@@ -1,4 +1,5 @@
--- A scan of a map's values for the first that passes a test.
+-- Scans of what an iterator of a map lends: whether anything passes a test, the first that does,
+-- and the item with a number.
 use Rattle.std.proofs.Common.{◌≡◌, Bool, true, false, ◌||◌, List, [], ◌∷◌, ◌++◌, map, cond, ℕ, length, Option, Some, None, is_some, option_copied, option_map, refl, sym, ap, ◌∙◌}
 use Rattle.std.specs.List.{list_any, find, slice_get}
 use Rattle.std.specs.Option.{option_or}

@@ -1,8 +1,8 @@
 -- Each row group of the table keeps the standing facts.
-use Rattle.std.proofs.Common.{◌≡◌, ℕ, ◌&&◌, ◌||◌, ◌<◌, ◌≤◌, not, Bool, true, false, cond, List, [], ◌∷◌, Option, Some, None, is_some, nat_lt, refl, sym, ap, subst, ◌∙◌, IsTrue, arith, Result, Ok, Err, codes}
+use Rattle.std.proofs.Common.{◌≡◌, ℕ, ◌&&◌, ◌||◌, ◌<◌, not, Bool, true, false, cond, List, [], ◌∷◌, Option, Some, None, is_some, refl, sym, ap, subst, ◌∙◌, IsTrue, Result, Ok, Err, codes}
 use mathlib.Core.Logic.{⊎_elim}
 use Rattle.std.specs.Str.{bytes_eq}
-use Rattle.std.proofs.lemmas.Bool.{both_ways, ltb-true, ltb-false, not-false}
+use Rattle.std.proofs.lemmas.Bool.{both_ways, not-false}
 use Rattle.std.specs.Ordering.{nat_cmp}
 use Rattle.std.specs.Cmp.{nat_cmp_total}
 use Rattle.std.specs.Cmp.Lexicographic.{nat_list_cmp_total}
@@ -15,7 +15,7 @@ use Rattle.configfs_rows.specs.Subsystems.{fresh_subsystem, put_in_subsystem, pu
 use Rattle.configfs_rows.specs.Ports.{fresh_port, with_address, put_link, put_group, remove_group}
 use Rattle.configfs_rows.specs.Places.{lowest_free}
 use Rattle.configfs_rows.specs.Holders.{disk_of, holder_of, hold, number_of, paths_of, holds_path, has_disk, is_held, path_or_empty}
-use Rattle.configfs_tree.specs.Outcome.{Outcome, unless_stands, with_settings, on_subsystem, on_port}
+use Rattle.configfs_tree.specs.Outcome.{Outcome, unless_stands, on_subsystem, on_port}
 use Rattle.configfs_tree.specs.Standing.{Placed, placed_row, placed_in, placed, HasHolders, IsPlaced}
 use Rattle.configfs_rows.specs.declared.limits.TheConstants.{MAX_SUBSYSTEMS, MAX_PORTS}
 use Rattle.configfs_rows.specs.declared.disks.DiskRow.{DiskRow}
@@ -25,9 +25,9 @@ use Rattle.configfs_rows.specs.declared.subsystems.SubsystemRow.{SubsystemRow}
 use Rattle.sqe_cqe.specs.declared.rows.Ana.{Ana}
 use Rattle.configfs_rows.specs.declared.ports.PortRow.{PortRow}
 use Rattle.configfs_tree.specs.declared.configuration.Configuration.{Configuration}
-use Rattle.configfs_tree.specs.declared.configuration.Attached.{Attached}
 use Rattle.configfs_rows.proofs.Gets.{some_same, none_some, cases_key, get-insert_at, get-insert_beside, get-remove_at, get-remove_beside, get-update_at, get-update_beside}
-use Rattle.configfs_tree.proofs.Kept.{names_same, none_of_test, placed_made, placed_removed, placed_others, placed_here, placed_was, subsystems_changed, count_changed, subsystem_put, namespace_put, namespace_free, port_put, one_put, one_removed}
+use Rattle.configfs_tree.proofs.Kept.{names_same, no_namespaces, placed_made, placed_removed, placed_others, placed_here, placed_was, subsystems_changed, changed_beside, count_changed, subsystem_put, namespace_put, namespace_free, port_put, one_put, one_removed}
+use Rattle.configfs_tree.proofs.Tests.{left_false, right_false, none_of_test, room_of}
 use Rattle.configfs_tree.proofs.Holds.{Holds, refuses, holds_row, holds_end, holds_last, holds_either, holds_unless, holds_if_subsystem, holds_if_rows, holds_if_port, holds_if_group, holds_parsed}
 use Rattle.configfs_rows.proofs.Placing.{places_inserted, places_removed, places_updated, place_is_free, stands_at_none}
 use Rattle.configfs_tree.proofs.Held.{here, moved_same, enabled_kept, drained_kept, holder_holds, holding}
@@ -38,7 +38,7 @@ use Rattle.configfs_tree.specs.Phases.{phase_from, phase_of_rows, phase_at}
 use Rattle.configfs_tree.specs.NamespaceRows.{paired, rows_in}
 use Rattle.configfs_tree.specs.Drained.{freed_path, freed_by, drained}
 use Rattle.configfs_tree.specs.Start.{free_disk, empty_tree}
-use Rattle.configfs_tree.specs.Links.{allowed_in, linked_in, with_attached, with_no_changes}
+use Rattle.configfs_tree.specs.Links.{allowed_in, linked_in}
 use Rattle.configfs_tree.specs.Standing.{AnotherHas, HeldMeansAnother}
 use mathlib.Core.List.{map as map_list}
 use Rattle.uuid.specs.Text.{parsed}
@@ -71,16 +71,9 @@ Keeps o = Holds (λ u change. IsPlaced u) o
 -- ---- mkdir
 k_mkdir_host : (t : Configuration) (host : List ℕ) → IsPlaced t → Keeps (mkdir_host t host)
 unfolding mkdir_host
-k_mkdir_host t host h = holds_row _ _ _ _ (λ _. holds_last _ _ _ _ (λ _. record {
-  subsystems =
-      h.subsystems;
-  ports = h.ports;
-  group_one = h.group_one;
-  holders = h.holders;
-}))
-
-room_of : (a b : ℕ) → not (nat_lt a b) ≡ false → a < b
-room_of a b e = ltb-true a b (not-false (nat_lt a b) e)
+k_mkdir_host t host h = holds_row _ _ _ _ (λ _. holds_last _ _ _ _ (λ _.
+    changed_beside t (map.insert t.settings.hosts host tt) t.settings.attached t.settings.ana_count
+    h))
 
 k_mkdir_subsystem : (t : Configuration) (sub : List ℕ) → IsPlaced t → Keeps (mkdir_subsystem t sub)
 unfolding mkdir_subsystem
@@ -153,39 +146,21 @@ k_mkdir_ana_group t id group h = holds_if_port _ _ (λ p e. holds_row _ _ _ _
 -- ---- rmdir
 k_rmdir_host : (t : Configuration) (host : List ℕ) → IsPlaced t → Keeps (rmdir_host t host)
 unfolding rmdir_host
-k_rmdir_host t host h = holds_row _ _ _ _ (λ _. holds_last _ _ _ _ (λ _. record {
-  subsystems =
-      h.subsystems;
-  ports = h.ports;
-  group_one = h.group_one;
-  holders = h.holders;
-}))
-
-pub left_false : (a b : Bool) → (a || b) ≡ false → a ≡ false
-left_false true b e = e
-left_false false b e = refl
-
-pub none_below : (n : ℕ) → nat_lt 0 n ≡ false → n ≡ 0
-none_below n e = let low : n ≤ 0 = ltb-false 0 n e in omega arith
+k_rmdir_host t host h = holds_row _ _ _ _ (λ _. holds_last _ _ _ _ (λ _.
+    changed_beside t (map.remove t.settings.hosts host) t.settings.attached t.settings.ana_count
+    h))
 
 k_rmdir_subsystem : (t : Configuration) (sub : List ℕ) → IsPlaced t → Keeps (rmdir_subsystem t sub)
 unfolding rmdir_subsystem
 k_rmdir_subsystem t sub h = holds_if_subsystem _ _ (λ s e. holds_row _ _ _ _
     (λ _. holds_last _ _ _ _ (λ unfilled.
     let m = t.settings.subsystems in
-    let empty : s.namespaces ≡ map.empty =
-    map.empty_of_len s.namespaces (none_below (map.len s.namespaces)
-    (left_false (nat_lt 0 (map.len s.namespaces)) (nat_lt 0 (map.len s.allowed_hosts))
-    unfilled)) in
+    let empty = no_namespaces s unfilled in
     subsystems_changed t (map.remove m sub)
     (places_removed nat_list_cmp_total names_same (λ (x : SubsystemRow). x.nqn)
     (λ (x : SubsystemRow). x.at) MAX_SUBSYSTEMS m sub h.subsystems)
     (moved_same (placed m) (placed (map.remove m sub)) t.disks (placed_removed m sub s e empty)
     h.holders) h)))
-
-pub right_false : (a b : Bool) → (a || b) ≡ false → b ≡ false
-right_false true b e = absurd (both_ways true e refl)
-right_false false b e = e
 
 -- a namespace that isn't busy holds no disk
 free_of : (t : Configuration) (s : SubsystemRow) (nsid : ℕ) (n m : NamespaceRow)
@@ -296,7 +271,8 @@ keeps_group_of t sub nsid s n (Some group) e f h =
 k_set_ana_grpid : (t : Configuration) (sub : List ℕ) (nsid : ℕ) (value : List ℕ) → IsPlaced t
     → Keeps (set_ana_grpid t sub nsid value)
 unfolding set_ana_grpid
-k_set_ana_grpid t sub nsid value h = holds_if_rows _ _ _ (λ s e n f. keeps_group_of t sub nsid s n (group_named value) e f h)
+k_set_ana_grpid t sub nsid value h = holds_if_rows _ _ _ (λ s e n f.
+    keeps_group_of t sub nsid s n (group_named value) e f h)
 
 -- the disk of a path that is free
 record FreeDisk (disks : List DiskRow) (q : Option (List ℕ)) : Type 0 where
@@ -470,32 +446,6 @@ pub either_stands : {E : Type 0} (r : Result (Unit {0}) E) (old new to : Configu
 either_stands (Ok x) old new to g f k h = stands_along to new g k
 either_stands (Err x) old new to g f k h = stands_along old new f h
 
-pub attached_stands : (t : Configuration) (sub port : ℕ) → IsPlaced t
-    → IsPlaced (with_attached t sub port)
-attached_stands t sub port h = record {
-  subsystems = h.subsystems;
-  ports = h.ports;
-  group_one = h.group_one;
-  holders = h.holders;
-}
-
-pub any_attached : (t : Configuration) (attached : Attached) → IsPlaced t
-    → IsPlaced (with_settings t (record t.settings { attached = attached }))
-any_attached t attached h = record {
-  subsystems = h.subsystems;
-  ports = h.ports;
-  group_one = h.group_one;
-  holders = h.holders;
-}
-
-pub loaded_stands : (t : Configuration) → IsPlaced t → IsPlaced (with_no_changes t)
-loaded_stands t h = record {
-  subsystems = h.subsystems;
-  ports = h.ports;
-  group_one = h.group_one;
-  holders = h.holders;
-}
-
 -- ---- links
 pub allowed_stands : (t : Configuration) (host : List ℕ) (linked : Bool)
     (found : Option SubsystemRow) → IsPlaced t → IsPlaced (allowed_in t host linked found)
@@ -593,7 +543,8 @@ no_holder (l ∷ lines) path d e = one_free (bytes_eq l.path path) (free_disk l)
     (disk_of path (map_list free_disk lines)) refl e (no_holder lines path d) where
       one_free : (b : Bool) (x : DiskRow) (rest : Option DiskRow) → x.holder ≡ None
           → cond b (Some x) rest ≡ Some d → (rest ≡ Some d → d.holder ≡ None) → d.holder ≡ None
-      one_free true x rest free e later = ap (λ (y : DiskRow). y.holder) (sym (some_same x d e)) ∙ free
+      one_free true x rest free e later = ap (λ (y : DiskRow). y.holder)
+          (sym (some_same x d e)) ∙ free
       one_free false x rest free e later = later e
 
 pub empty_stands : (lines : List DiskLine) → IsPlaced (empty_tree lines)
@@ -665,7 +616,8 @@ held_means_another t sub nsid h x path stands x_path off =
                 let mine' : IsTrue (holds_path t.disks x.at nsid x.row.device_path) =
                 subst (λ (j : ℕ). IsTrue (holds_path t.disks x.at j x.row.device_path)) same_nsid
                 mine in
-                off (live_right x.row.enabled (holds_path t.disks x.at nsid x.row.device_path) mine');
+                off (live_right x.row.enabled (holds_path t.disks x.at nsid x.row.device_path)
+                mine');
             x = here k.h.sub w.row;
             stands = w.stands;
             live = live_right w.row.enabled (holds_path t.disks k.h.sub k.h.nsid w.row.device_path)

@@ -30,6 +30,7 @@ use Rattle.configfs_rows.proofs.Each.{scan_row}
 use Rattle.configfs_tree.proofs.Kept.{names_same}
 use Rattle.configfs_tree.proofs.Held.{here, path_of_holder, holding}
 use Rattle.configfs_tree.proofs.KeptTable.{live_holds}
+use Rattle.configfs_tree.proofs.SoundTable.{length_paths}
 use Rattle.configfs_tree.proofs.Stands.{own_subsystem, own_port}
 
 -- ---- positions in use
@@ -147,10 +148,6 @@ paths_found : (path : List ℕ) (disks : List DiskRow)
 paths_found path [] = refl
 paths_found path (d ∷ disks) = ap (λ n. cond (not (bytes_eq d.path path)) (1
     + n) 0) (paths_found path disks)
-
-length_paths : (disks : List DiskRow) → length (paths_of disks) ≡ length disks
-length_paths [] = refl
-length_paths (d ∷ disks) = ap (λ n. suc n) (length_paths disks)
 
 own_path_at : (path : List ℕ) (x d : DiskRow) (found : Option DiskRow) (b : Bool)
     → bytes_eq x.path path ≡ b → cond b (Some x) found ≡ Some d → (found ≡ Some d → d.path ≡ path)

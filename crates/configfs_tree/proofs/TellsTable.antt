@@ -23,7 +23,7 @@ use Rattle.configfs_rows.specs.declared.ports.PortRow.{PortRow}
 use Rattle.configfs_tree.specs.declared.configuration.Configuration.{Configuration}
 use Rattle.configfs_rows.proofs.Gets.{some_same, none_some, get-insert_at, get-insert_beside, get-remove_beside, get-update_beside, get-remove_at, get-update_at}
 use Rattle.std.specs.Ordering.{nat_cmp}
-use Rattle.configfs_tree.proofs.Kept.{names_same, none_of_test, placed_made, placed_removed}
+use Rattle.configfs_tree.proofs.Kept.{names_same, no_namespaces, placed_made, placed_removed}
 use Rattle.configfs_tree.proofs.Holds.{Holds, refuses, holds_row, holds_end, holds_last, holds_either, holds_unless, holds_if_subsystem, holds_if_rows, holds_if_port, holds_if_group, holds_parsed}
 use Rattle.configfs_tree.proofs.Held.{here}
 use Rattle.uuid.specs.Text.{parsed}
@@ -58,7 +58,7 @@ use Rattle.configfs_rows.specs.Values.{has_path, same_bool, same_state}
 use Rattle.configfs_tree.specs.declared.edits.Touched.TheVariants as touches
 use Rattle.configfs_rows.specs.declared.namespaces.NamespacePut.{NamespacePut}
 use Rattle.configfs_tree.proofs.Kept.{placed_attr}
-use Rattle.configfs_tree.proofs.KeptTable.{left_false, none_below, right_false}
+use Rattle.configfs_tree.proofs.Tests.{left_false, none_of_test, right_false}
 use Rattle.configfs_tree.proofs.Slots.{slot_put, slot_made, slot_gone, put_ports, made_ports, gone_ports}
 use Rattle.configfs_tree.proofs.Tells.{insert_differs, insert_other, remove_differs, update_differs, tells_nothing, hosts_tell, rows_tell, slot_tells, turn_tells, move_tells, ports_tell, port_tells}
 
@@ -150,10 +150,7 @@ unfolding rmdir_subsystem
 u_rmdir_subsystem t sub = holds_if_subsystem _ _ (λ s e. holds_row _ _ _ _
     (λ _. holds_last _ _ _ _ (λ unfilled.
     let m = t.settings.subsystems in
-    let empty : s.namespaces ≡ map.empty =
-    map.empty_of_len s.namespaces (none_below (map.len s.namespaces)
-    (left_false (nat_lt 0 (map.len s.namespaces)) (nat_lt 0 (map.len s.allowed_hosts))
-    unfilled)) in
+    let empty = no_namespaces s unfilled in
     rows_tell t (map.remove m sub) sub s (inl e)
     (λ a ne. get-remove_beside nat_list_cmp_total names_same m sub a ne)
     (remove_differs nat_list_cmp_total names_same m sub s e)
@@ -268,7 +265,8 @@ other_path (Some path) value e is = other_bytes path value e (some_same path val
 u_set_device_path : (t : Configuration) (sub : List ℕ) (nsid : ℕ) (value : List ℕ)
     → Told t (set_device_path t sub nsid value)
 unfolding set_device_path
-u_set_device_path t sub nsid value = holds_if_rows _ _ _ (λ s e n f. holds_row _ _ _ _ (λ _. holds_end _ _ _ (λ _. holds_unless _ t _ _ (tells_nothing t)
+u_set_device_path t sub nsid value = holds_if_rows _ _ _ (λ s e n f.
+    holds_row _ _ _ _ (λ _. holds_end _ _ _ (λ _. holds_unless _ t _ _ (tells_nothing t)
     (λ other.
     put_tells t sub nsid (Path value (number_of value (paths_of t.disks))) s n e f
     (λ is. other_path n.device_path value other (ap (λ (r : NamespaceRow). r.device_path) is))
@@ -305,7 +303,8 @@ u_put_group_of t sub nsid s n (Some group) e f = holds_unless _ t _ _ (tells_not
 u_set_ana_grpid : (t : Configuration) (sub : List ℕ) (nsid : ℕ) (value : List ℕ)
     → Told t (set_ana_grpid t sub nsid value)
 unfolding set_ana_grpid
-u_set_ana_grpid t sub nsid value = holds_if_rows _ _ _ (λ s e n f. u_put_group_of t sub nsid s n (group_named value) e f)
+u_set_ana_grpid t sub nsid value = holds_if_rows _ _ _ (λ s e n f.
+    u_put_group_of t sub nsid s n (group_named value) e f)
 
 u_disabled : (t : Configuration) (sub : List ℕ) (nsid : ℕ) (s : SubsystemRow) (n : NamespaceRow)
     → map.get t.settings.subsystems sub ≡ Some s → map.get s.namespaces nsid ≡ Some n
