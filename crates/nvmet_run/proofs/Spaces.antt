@@ -57,15 +57,3 @@ pub room_after : (f : Capsule → ℕ) (cs : List Capsule) (i : ℕ) (d : Capsul
     → i < length cs → now ≤ before + sum_by f (take i cs)
     → new ≤ now + f (get_or cs i d) → new ≤ before + sum_by f (take (i + 1) cs)
 room_after f cs i d before now new lt so more = omega (arith, so, more, taken_room f cs i d lt)
-
--- a head that was written over the bytes that were kept for it
-head_over : (old zeros bytes head : List ℕ) → length zeros ≡ length head
-    → overwritten ((old ++ zeros) ++ bytes) (length old) head ≡ old ++ (head ++ bytes)
-head_over old zeros bytes head len = grind (arith, common_steps)
-
-pub record_written : (to kept held new : Text) (zeros bytes head : List ℕ) (at : ℕ)
-    → at ≡ length to.bytes → kept ≡ appended to zeros → held ≡ appended kept bytes
-    → new ≡ with_bytes held (overwritten held.bytes at head) → length zeros ≡ length head
-    → new ≡ appended to (head ++ bytes)
-record_written to kept held new zeros bytes head at here a b c len =
-    rw (c, b, a, here) (ap (λ (bs : List ℕ). with_bytes to bs) (head_over to.bytes zeros bytes head len))

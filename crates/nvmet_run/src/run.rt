@@ -16,7 +16,7 @@ use crate::serve::serve_file;
 use crate::status::{CAPSULES, Fault, FileNo, RESPONSES, Status};
 use crate::summary::summary_text;
 use mem_bdev::{Buffer, DiskLine};
-use plan_files::{Files, Gate, Plan, QueueLine, Sink, room};
+use plan_files::{Files, Gate, Plan, QueueLine, Sink};
 use seq_target::Target;
 use std::alloc::Global;
 use std::sync::Wait;
@@ -45,7 +45,7 @@ fn serve_plan<F: Files>(
 {
     let file = read_capsule_file(alloc, &queue.capsules, files)?;
     let mut target = Target::simple(alloc, disk)?;
-    let mut output = Output::new(alloc, room(&file.capsules) as usize)?;
+    let mut output = Output::new(alloc, file.room as usize)?;
     serve_file(&mut target, 1, &file.capsules, &file.bytes, &mut output);
     let text = summary_text(alloc, &output)?;
     Ok(Printed {

@@ -3,7 +3,9 @@ use Rattle.std.proofs.Common.{◌≡◌, ℕ, suc, ◌-◌, ◌+◌, ◌<◌, Li
 use Rattle.std.proofs.lemmas.List.{append-nil}
 use Rattle.plan_files.specs.Capsules.{Capsule, StandBetween}
 use Rattle.plan_files.specs.declared.capsules.Capsule as code
-use Rattle.plan_files.specs.Rooms.{capsule_room}
+use Rattle.std.specs.List.{sum_by}
+use Rattle.std.proofs.lemmas.List.Sums.{sum_by-append}
+use Rattle.plan_files.specs.Rooms.{capsule_room, room_of}
 use Rattle.plan_files.specs.Binding.{◌>>=◌}
 use Rattle.plan_files.specs.CapsuleReading.{Fails, next_capsule, capsules_from, width}
 use Rattle.plan_files.specs.declared.capsules.CapsuleError.{CapsuleError}
@@ -56,6 +58,13 @@ pub stand_more : (from to : ℕ) (cs : List code.Capsule) (c : code.Capsule) →
     → StandBetween from (c.data_at + c.data_len) (cs ++ c ∷ [])
 stand_more from to [] c between at = (omega (arith, between, at), refl)
 stand_more from to (d ∷ cs) c between at = (between.0, stand_more (d.data_at + d.data_len) to cs c between.1 at)
+
+-- the room of one capsule more
+pub room_more : (cs : List code.Capsule) (c : code.Capsule)
+    → room_of (λ (x : code.Capsule). x.sqe) (cs ++ c ∷ [])
+    ≡ room_of (λ (x : code.Capsule). x.sqe) cs + capsule_room c.sqe
+room_more cs c =
+    omega (arith, sum_by-append (λ (x : code.Capsule). capsule_room x.sqe) cs (c ∷ []))
 
 pub is_done : (done : List Capsule) (left at room : ℕ) (bytes : List ℕ) (total : Result (List Capsule) CapsuleError) → bytes ≡ [] → after_those done (capsules_from left at room bytes) ≡ total → total ≡ Ok done
 unfolding capsules_from

@@ -23,7 +23,10 @@ mod records;
 #[cfg(test)]
 mod tests;
 
-pub use capsules::{Capsule, CapsuleError, MAX_CAPSULES, MAX_OUTPUT, quota, read_capsules, room};
+pub use capsules::{
+    Capsule, CapsuleError, MAX_CAPSULES, MAX_OUTPUT, SizedCapsules, quota, read_capsules,
+    read_sized_capsules, room,
+};
 pub use faults::KeptCall;
 pub use host::{HostFiles, HostSink};
 pub use items::{Item, Plan, QueueLine};

@@ -187,5 +187,8 @@ fn reads_capsules(rt: HostRuntime) -> Result<(), Fail> {
     assert_eq!(rt; (capsules[1].data_at, capsules[1].data_len), (128, 3));
     assert_eq!(rt; room(&capsules), 160 + 96 + 512 + 96);
     assert_eq!(rt; quota(&capsules), 12);
+    let sized = read_sized_capsules(rt.alloc(), &bytes)?;
+    assert_eq!(rt; sized.capsules.len(), 2);
+    assert_eq!(rt; sized.room, 160 + 96 + 512 + 96);
     Ok(())
 }

@@ -1,11 +1,11 @@
-use Rattle.std.proofs.Common.{◌≡◌, ℕ, ◌+◌, ◌++◌, ◌∷◌, [], length, drop, subst, arith, length-drop}
+use Rattle.std.proofs.Common.{◌≡◌, ℕ, ◌+◌, ◌++◌, ◌∷◌, [], length, drop, subst, sym, arith, length-drop}
 use Rattle.std.proofs.lemmas.Result.{err_from_is_err_and}
 use Rattle.std.proofs.lemmas.List.{map_push, length-append, drop-drop, drop_all}
 use Rattle.std.proofs.lemmas.List.Elements.{All-push}
 use Rattle.sqe_cqe.specs.Sqe.{payload_len}
 use Rattle.plan_files.specs.Capsules.{IsWholeIn, StandBetween, capsule_in, capsules_in}
 use Rattle.plan_files.specs.CapsuleReading.{capsules_of}
-use Rattle.plan_files.proofs.CapsuleLoop.{goes_on, ends, is_full, is_done, stand_more}
+use Rattle.plan_files.proofs.CapsuleLoop.{goes_on, ends, is_full, is_done, stand_more, room_more}
 use Rattle.plan_files.proofs.capsules.all_capsules.Goals as goal
 
 pub returns-then-len-ge-MAX_CAPSULES-clause-exact :
@@ -37,6 +37,8 @@ loop-at-preserved c =
       inside = is.whole.within;
       few = rw (more, count) (omega arith);
       small = rw c.room_for-room.ensures.value is.roomy;
+      sized = rw (more, c.room_for-room.ensures.value, c.loop-at.invariant.sized)
+          (sym (room_more done one));
       so_far = rw (more, count, c.room_for-room.ensures.value, at, map_push, ← drop-drop) now;
       whole = rw more (All-push (IsWholeIn bytes) done one c.loop-at.invariant.whole is.whole);
       places = rw more (stand_more 0 c.loop-at.at done one c.loop-at.invariant.places is.place);
