@@ -37,21 +37,30 @@ both_room e n is small =
 -- the room of one capsule more
 taken_room : (f : Capsule → ℕ) (cs : List Capsule) (i : ℕ) (d : Capsule) → i < length cs
     → sum_by f (take (i + 1) cs) ≡ sum_by f (take i cs) + f (get_or cs i d)
-taken_room f cs i d lt = ap (sum_by f) (take_more cs i d lt) ∙ sum_by-append f (take i cs) (get_or cs i d ∷ []) ∙ omega arith
+taken_room f cs i d lt = ap (sum_by f) (take_more cs i d lt)
+    ∙ sum_by-append f (take i cs) (get_or cs i d ∷ []) ∙ omega arith
 
 -- the room of the capsules before one, and of it, is no more than that of all
 next_room : (f : Capsule → ℕ) (cs : List Capsule) (i : ℕ) (d : Capsule) → i < length cs
     → sum_by f (take i cs) + f (get_or cs i d) ≤ sum_by f cs
 next_room f cs i d lt =
-    let whole : sum_by f (take (i + 1) cs ++ drop (i + 1) cs) ≡ sum_by f cs = ap (sum_by f) (take-append-drop (i + 1) cs) in
+    let whole : sum_by f (take (i + 1) cs ++ drop (i + 1) cs) ≡ sum_by f cs =
+    ap (sum_by f) (take-append-drop (i + 1) cs) in
     let cut = sum_by-append f (take (i + 1) cs) (drop (i + 1) cs) in
     omega (arith, whole, cut, taken_room f cs i d lt)
 
 -- there is room for one capsule more, and after it for the others
-pub room_for_next : (f : Capsule → ℕ) (cs : List Capsule) (i : ℕ) (d : Capsule) (before now room end : ℕ)
+pub room_for_next : (f : Capsule → ℕ) (cs : List Capsule) (i : ℕ) (d : Capsule)
+    (before now room end : ℕ)
     → i < length cs → before + sum_by f cs ≤ end
     → now ≤ before + sum_by f (take i cs) → room ≡ end → now + f (get_or cs i d) ≤ room
-room_for_next f cs i d before now room end lt all so same = omega (arith, all, so, same, next_room f cs i d lt)
+room_for_next f cs i d before now room end lt all so same = omega (
+  arith,
+  all,
+  so,
+  same,
+  next_room f cs i d lt,
+)
 
 pub room_after : (f : Capsule → ℕ) (cs : List Capsule) (i : ℕ) (d : Capsule) (before now new : ℕ)
     → i < length cs → now ≤ before + sum_by f (take i cs)

@@ -87,15 +87,24 @@ fn room_for(e: &Sqe) -> u64
     }
 }
 
+// The next capsule of a file, and the room that it and those before it need.
+#[derive(Drop)]
+struct NextCapsule {
+    capsule: Capsule,
+    room: u64,
+}
+
 // The capsule at an offset, after capsules that need so much room.
 #[tactic(auto, unfolding(crate::specs::CapsuleReading::next_capsule))]
-fn capsule_at(bytes: &[u8], at: usize, room: u64) -> Result<Capsule, CapsuleError>
+fn capsule_at(bytes: &[u8], at: usize, room: u64) -> Result<NextCapsule, CapsuleError>
     requires inside { at ≤ length bytes.now }
     requires small { room ≤ MAX_OUTPUT }
-    ensures exact { Gives (capsule_in bytes.now) result (next_capsule at room (drop at bytes.now)) }
-    ensures whole { IfOk result (IsWholeIn bytes.now) }
-    ensures place { IfOk result (λ c. c.data_at ≡ at + 64) }
-    ensures roomy { IfOk result (λ c. room + capsule_room c.sqe ≤ MAX_OUTPUT) }
+    ensures exact { Gives (λ n. capsule_in bytes.now n.capsule) result
+        (next_capsule at room (drop at bytes.now)) }
+    ensures whole { IfOk result (λ n. IsWholeIn bytes.now n.capsule) }
+    ensures place { IfOk result (λ n. n.capsule.data_at ≡ at + 64) }
+    ensures room { IfOk result (λ n. n.room ≡ room + capsule_room n.capsule.sqe) }
+    ensures roomy { IfOk result (λ n. n.room ≤ MAX_OUTPUT) }
 {
     let cut = CapsuleError::Cut { offset: at as u64 };
     let left = bytes.len() - at;
@@ -114,12 +123,12 @@ fn capsule_at(bytes: &[u8], at: usize, room: u64) -> Result<Capsule, CapsuleErro
     if room > MAX_OUTPUT {
         return Err(too_long(What::Output, room));
     }
-    let data_at = at + 64;
-    Ok(Capsule {
+    let capsule = Capsule {
         sqe,
-        data_at,
+        data_at: at + 64,
         data_len,
-    })
+    };
+    Ok(NextCapsule { capsule, room })
 }
 
 fn too_long(what: What, count: u64) -> CapsuleError
@@ -143,10 +152,10 @@ fn all_capsules(alloc: Global, bytes: &[u8]) -> Result<SizedCapsules, CapsuleErr
         if capsules.len() >= MAX_CAPSULES {
             return Err(too_long(What::Capsules, MAX_CAPSULES as u64 + 1));
         }
-        let capsule = capsule_at(bytes, at, room)?;
-        room += room_for(&capsule.sqe);
-        at = capsule.data_at + capsule.data_len;
-        capsules.push(capsule)?;
+        let next = capsule_at(bytes, at, room)?;
+        room = next.room;
+        at = next.capsule.data_at + next.capsule.data_len;
+        capsules.push(next.capsule)?;
     }
     Ok(SizedCapsules { capsules, room })
 }
@@ -173,7 +182,8 @@ pub fn read_capsules(alloc: Global, bytes: &[u8]) -> Result<Vec<Capsule>, Capsul
     ensures spelled { IfOk result (λ v. AreCapsules bytes.now (capsules_in bytes.now v.items)) }
     ensures within { IfOk result (λ v. AreWithin (capsules_in bytes.now v.items)) }
     // What is spelled so is read, unless memory runs out.
-    ensures only { (cs : List file.Capsule) → AreWithin cs → AreCapsules bytes.now cs → Gives (λ v. capsules_in bytes.now v.items) result (Ok cs) }
+    ensures only { (cs : List file.Capsule) → AreWithin cs → AreCapsules bytes.now cs
+        → Gives (λ v. capsules_in bytes.now v.items) result (Ok cs) }
     // Which fault it is.
     ensures exact { Gives (λ v. capsules_in bytes.now v.items) result (capsules_of bytes.now) }
     // The error is the file's first fault, and its first fault the error, unless memory runs out.

@@ -11,7 +11,9 @@ invariant-loop-at l = record {
   few : length l.capsules.items ≤ 65536;
   small : l.room ≤ 67108864;
   sized : l.room ≡ room_of (λ c. c.sqe) l.capsules.items;
-  so_far : after_those (capsules_in l.bytes l.capsules.items) (capsules_from (65536 - length l.capsules.items) l.at l.room (drop l.at l.bytes)) ≡ capsules_of l.bytes;
+  so_far : after_those (capsules_in l.bytes l.capsules.items)
+      (capsules_from (65536 - length l.capsules.items) l.at l.room (drop l.at l.bytes))
+      ≡ capsules_of l.bytes;
   whole : All (IsWholeIn l.bytes) l.capsules.items;
   places : StandBetween 0 l.at l.capsules.items;
 }
