@@ -38,8 +38,9 @@ fn read_content<F: Files>(
     ensures short { IfOk result (λ v. length v.items ≤ limit) }
     ensures refused { IfErr result (λ f. FileRefused file name.now (content_of limit file)
         (files_view (told_by (F.tells files.old) (F.told files.old)) (F.faults files.old)
-        (F.last files.old)) (files_view (told_by (F.tells files.new) (F.told files.new))
-        (F.faults files.new) (F.last files.new)) f) }
+        (F.last files.old))
+        (files_view (told_by (F.tells files.new) (F.told files.new)) (F.faults files.new)
+        (F.last files.new)) f) }
     ensures same { (told_by (F.tells files.new) (F.told files.new))
         ≡ (told_by (F.tells files.old) (F.told files.old)) }
     ensures later { F.faults files.old ≤ F.faults files.new }
@@ -143,8 +144,9 @@ pub fn read_plan_file<F: Files>(alloc: Global, name: &str, files: &mut F) -> Res
     ensures runnable { IfOk result (λ plan. IsRunnable plan) }
     ensures refused { IfErr result (λ f. FileRefused PLAN name.now plan_of_file
         (files_view (told_by (F.tells files.old) (F.told files.old)) (F.faults files.old)
-        (F.last files.old)) (files_view (told_by (F.tells files.new) (F.told files.new))
-        (F.faults files.new) (F.last files.new)) f) }
+        (F.last files.old))
+        (files_view (told_by (F.tells files.new) (F.told files.new)) (F.faults files.new)
+        (F.last files.new)) f) }
     ensures same { (told_by (F.tells files.new) (F.told files.new))
         ≡ (told_by (F.tells files.old) (F.told files.old)) }
     ensures later { F.faults files.old ≤ F.faults files.new }
@@ -197,8 +199,9 @@ pub fn read_capsule_file<F: Files>(
     ensures room { IfOk result (λ f. f.room ≡ room_of (λ c. c.sqe) f.capsules.items) }
     ensures refused { IfErr result (λ f. FileRefused CAPSULES name.now capsules_of_file
         (files_view (told_by (F.tells files.old) (F.told files.old)) (F.faults files.old)
-        (F.last files.old)) (files_view (told_by (F.tells files.new) (F.told files.new))
-        (F.faults files.new) (F.last files.new)) f) }
+        (F.last files.old))
+        (files_view (told_by (F.tells files.new) (F.told files.new)) (F.faults files.new)
+        (F.last files.new)) f) }
     ensures same { (told_by (F.tells files.new) (F.told files.new))
         ≡ (told_by (F.tells files.old) (F.told files.old)) }
     ensures later { F.faults files.old ≤ F.faults files.new }
@@ -226,8 +229,9 @@ pub fn write_responses<F: Files>(name: &Name, bytes: &[u8], files: &mut F) -> Re
         other }
     ensures refused { IfErr result (λ f. WriteRefused name.now
         (files_view (told_by (F.tells files.old) (F.told files.old)) (F.faults files.old)
-        (F.last files.old)) (files_view (told_by (F.tells files.new) (F.told files.new))
-        (F.faults files.new) (F.last files.new)) f) }
+        (F.last files.old))
+        (files_view (told_by (F.tells files.new) (F.told files.new)) (F.faults files.new)
+        (F.last files.new)) f) }
 {
     let name = name.as_text().unwrap();
     match files.write(name, bytes) {
@@ -240,9 +244,9 @@ pub fn write_responses<F: Files>(name: &Name, bytes: &[u8], files: &mut F) -> Re
 /// Puts the text of a run that ended well.
 pub fn put<K: Sink>(text: &str, out: &mut K) -> Result<(), Fault>
     ensures took { OnOk result (Took (K.taken out.old) (K.taken out.new) text.now) }
-    ensures refused { IfErr result (λ f. (f ≡ Fault.WriteFault SINK)
-        × FailedPut (sink_view (K.taken out.old) (K.faults out.old)) (sink_view (K.taken out.new)
-        (K.faults out.new)) text.now) }
+    ensures refused { IfErr result (λ f. (f ≡ Fault.WriteFault SINK) × FailedPut
+        (sink_view (K.taken out.old) (K.faults out.old))
+        (sink_view (K.taken out.new) (K.faults out.new)) text.now) }
 {
     match out.put(text.as_bytes()) {
         Ok(()) => Ok(()),

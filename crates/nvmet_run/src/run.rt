@@ -42,8 +42,9 @@ fn serve_plan<F: Files>(
         disk.now queue.now m.records.bytes (string_bytes m.text)) }
     ensures refused { IfErr result (λ f. FileRefused CAPSULES queue.now.capsules capsules_of_file
         (files_view (told_by (F.tells files.old) (F.told files.old)) (F.faults files.old)
-        (F.last files.old)) (files_view (told_by (F.tells files.new) (F.told files.new))
-        (F.faults files.new) (F.last files.new)) f) }
+        (F.last files.old))
+        (files_view (told_by (F.tells files.new) (F.told files.new)) (F.faults files.new)
+        (F.last files.new)) f) }
     ensures same { (told_by (F.tells files.new) (F.told files.new))
         ≡ (told_by (F.tells files.old) (F.told files.old)) }
     ensures later { F.faults files.old ≤ F.faults files.new }
@@ -84,9 +85,9 @@ fn run_read<F: Files, K: Sink>(
         → Ran (told_by (F.tells files.old) (F.told files.old)) (told_by (F.tells files.new)
         (F.told files.new)) (K.taken out.old) (K.taken out.new) name) }
     ensures refused { IfErr result (λ f. (name : List ℕ)
-        → ReadsPlan (told_by (F.tells files.old) (F.told files.old)) name plan.now
-        → ServingRefused (outside (told_by (F.tells files.old) (F.told files.old))
-        (F.faults files.old) (F.last files.old) (K.taken out.old) (K.faults out.old))
+        → ReadsPlan (told_by (F.tells files.old) (F.told files.old)) name plan.now → ServingRefused
+        (outside (told_by (F.tells files.old) (F.told files.old)) (F.faults files.old)
+        (F.last files.old) (K.taken out.old) (K.faults out.old))
         (outside (told_by (F.tells files.new) (F.told files.new)) (F.faults files.new)
         (F.last files.new) (K.taken out.new) (K.faults out.new)) name plan.now.queues f) }
 {
@@ -111,7 +112,8 @@ fn name_of<'a>(queues: &'a [QueueLine], name: &'a [u8], file: FileNo) -> &'a [u8
 // Puts the line of a fault in the file of this name, and hands the fault on.
 fn report_fault<K: Sink>(file: &[u8], fault: Fault, out: &mut K) -> Fault
     ensures same { result ≡ fault }
-    ensures said { Said (sink_view (K.taken out.old) (K.faults out.old))
+    ensures said { Said
+        (sink_view (K.taken out.old) (K.faults out.old))
         (sink_view (K.taken out.new) (K.faults out.new)) (line_of file.now fault) }
 {
     let _ = put_line(file, &fault, out);
@@ -128,8 +130,8 @@ fn run_whole<F: Files, K: Sink>(
     ensures ran { OnOk result (Ran (told_by (F.tells files.old) (F.told files.old))
         (told_by (F.tells files.new) (F.told files.new)) (K.taken out.old) (K.taken out.new)
         plan.now) }
-    ensures refused { IfErr result
-        (λ f. Refusal (outside (told_by (F.tells files.old) (F.told files.old)) (F.faults files.old)
+    ensures refused { IfErr result (λ f. Refusal
+        (outside (told_by (F.tells files.old) (F.told files.old)) (F.faults files.old)
         (F.last files.old) (K.taken out.old) (K.faults out.old))
         (outside (told_by (F.tells files.new) (F.told files.new)) (F.faults files.new)
         (F.last files.new) (K.taken out.new) (K.faults out.new)) plan.now f) }
@@ -172,8 +174,8 @@ pub fn run_plan<R: Wait + Threads + Sync, F: Files, K: Sink, G: Gate + Sync>(
     // The words are no matter of this call.
     ensures usage { result ≢ Status.Usage }
     // Why another status came, and what it left.
-    ensures refused { (f : Fault) → result ≡ status_of f
-        → Refusal (outside (told_by (F.tells files.old) (F.told files.old)) (F.faults files.old)
+    ensures refused { (f : Fault) → result ≡ status_of f → Refusal
+        (outside (told_by (F.tells files.old) (F.told files.old)) (F.faults files.old)
         (F.last files.old) (K.taken out.old) (K.faults out.old))
         (outside (told_by (F.tells files.new) (F.told files.new)) (F.faults files.new)
         (F.last files.new) (K.taken out.new) (K.faults out.new)) plan.now f }

@@ -123,7 +123,14 @@ fn submit_one(
         output.new }
 {
     let reply = target.submit(queue, number, entry);
-    output.add(output.places, Kind::Submit, number, &reply);
+    let is_held = was_held(&reply);
+    // The two are apart, since the record of a held command is known but for its place and number: 38 instructions less
+    // a command.
+    if is_held {
+        output.add(output.places, Kind::Submit, number, &Reply::Held);
+    } else {
+        output.add(output.places, Kind::Submit, number, &reply);
+    }
     reply
 }
 

@@ -64,12 +64,13 @@ pub fn command<R: Wait + Threads + Sync, F: Files, K: Sink, G: Gate + Sync>(
         → files_view (told_by (F.tells files.new) (F.told files.new)) (F.faults files.new)
         (F.last files.new) ≡ files_view (told_by (F.tells files.old) (F.told files.old))
         (F.faults files.old) (F.last files.old) }
-    ensures said { result ≡ Status.Usage → Said (sink_view (K.taken out.old) (K.faults out.old))
+    ensures said { result ≡ Status.Usage → Said
+        (sink_view (K.taken out.old) (K.faults out.old))
         (sink_view (K.taken out.new) (K.faults out.new)) usage_line }
     // Why another status came, and what it left.
     ensures refused { (f : Fault) → result ≡ status_of f
-        → ((plan : List ℕ) × (plan_named words.now ≡ Some plan)
-        × Refusal (outside (told_by (F.tells files.old) (F.told files.old)) (F.faults files.old)
+        → ((plan : List ℕ) × (plan_named words.now ≡ Some plan) × Refusal
+        (outside (told_by (F.tells files.old) (F.told files.old)) (F.faults files.old)
         (F.last files.old) (K.taken out.old) (K.faults out.old))
         (outside (told_by (F.tells files.new) (F.told files.new)) (F.faults files.new)
         (F.last files.new) (K.taken out.new) (K.faults out.new)) plan f) }
