@@ -1,5 +1,5 @@
 -- What told files hold settles how a run ends, where no call fails.
-use Rattle.std.proofs.Common.{◌≡◌, ◌⊎◌, ℕ, List, [], ◌∷◌, Option, Some, None, Err, refl, sym, ap, ◌∙◌, inl, inr}
+use Rattle.std.proofs.Common.{◌≡◌, ◌⊎◌, ℕ, List, [], ◌∷◌, Option, Some, None, Err, refl, ap, inl, inr}
 use Rattle.run_outside.specs.Outside.{Rose}
 use Rattle.plan_files.specs.Capsules.{Capsule}
 use Rattle.plan_files.specs.declared.items.Plan.{Plan}

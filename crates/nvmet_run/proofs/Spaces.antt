@@ -1,10 +1,8 @@
 -- The room that the records of capsules need.
-use Rattle.std.proofs.Common.{◌≡◌, ◌<◌, ◌≤◌, ℕ, ◌+◌, List, [], ◌∷◌, ◌++◌, length, get_or, take, drop, refl, sym, ap, ◌∙◌, arith}
+use Rattle.std.proofs.Common.{◌≡◌, ◌<◌, ◌≤◌, ℕ, ◌+◌, List, [], ◌∷◌, ◌++◌, length, get_or, take, drop, ap, ◌∙◌, arith}
 use Rattle.std.proofs.lemmas.List.{take_more, take-append-drop}
-use Rattle.std.proofs.lemmas.Grind.{common_steps}
 use Rattle.std.specs.List.{sum_by}
 use Rattle.std.proofs.lemmas.List.Sums.{sum_by-append}
-use Rattle.mem_bdev.specs.Texts.{Text, appended, overwritten, with_bytes}
 use Rattle.mem_bdev.specs.declared.limits.TheConstants.{MAX_TRANSFER}
 use Rattle.sqe_cqe.specs.declared.sqe.Sqe.{Sqe}
 use Rattle.sqe_cqe.specs.declared.way.Direction.{Direction}

@@ -5,11 +5,11 @@ use Rattle.std.proofs.lemmas.Bool.{ltb-false, ltb-true, le-ltb, lt-ltb}
 use Rattle.std.proofs.lemmas.List.{take-append-le, take-append-drop, length-drop, length-append, length-take-le}
 use Rattle.std.proofs.lemmas.List.Sums.{sum_by-cons}
 use Rattle.sqe_cqe.specs.Sqe.{payload_len}
-use Rattle.plan_files.specs.Capsules.{Capsule, AreCapsules, AreWithin, capsule_of, head_of}
+use Rattle.plan_files.specs.Capsules.{Capsule, capsule_of, head_of}
 use Rattle.plan_files.specs.Rooms.{capsule_room}
 use Rattle.plan_files.specs.Binding.{◌>>=◌}
 use Rattle.plan_files.specs.CapsuleReading.{Gives, next_capsule, capsules_from, capsules_of, width}
-use Rattle.plan_files.specs.CapsuleFaults.{IsCut, PassesCapsules, PassesData, PassesOutput, NextFault, FirstFault}
+use Rattle.plan_files.specs.CapsuleFaults.{IsCut, PassesData, PassesOutput, NextFault, FirstFault}
 use Rattle.plan_files.specs.declared.capsules.CapsuleError.{CapsuleError}
 use Rattle.plan_files.specs.declared.capsules.CapsuleError.TheVariants as errors
 use Rattle.plan_files.specs.declared.limits.What.TheVariants.{Capsules, Data, Output}

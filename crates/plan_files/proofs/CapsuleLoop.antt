@@ -3,7 +3,6 @@ use Rattle.std.proofs.Common.{◌≡◌, ℕ, suc, ◌-◌, ◌+◌, ◌<◌, Li
 use Rattle.std.proofs.lemmas.List.{append-nil}
 use Rattle.plan_files.specs.Capsules.{Capsule, StandBetween}
 use Rattle.plan_files.specs.declared.capsules.Capsule as code
-use Rattle.std.specs.List.{sum_by}
 use Rattle.std.proofs.lemmas.List.Sums.{sum_by-append}
 use Rattle.plan_files.specs.Rooms.{capsule_room, room_of}
 use Rattle.plan_files.specs.Binding.{◌>>=◌}

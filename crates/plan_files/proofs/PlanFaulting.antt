@@ -1,5 +1,5 @@
 -- The first fault of a plan is the error that reading it gives.
-use Rattle.std.proofs.Common.{◌≡◌, ◌≢◌, ◌⊎◌, ◌<◌, ◌≤◌, ◌^◌, ℕ, suc, ◌+◌, ◌-◌, min, Bool, true, false, cond, ◌&&◌, ltb, List, [], ◌∷◌, ◌++◌, length, Option, Some, None, Result, Ok, Err, refl, sym, ap, subst, ◌∙◌, inl, inr, lit≤, arith}
+use Rattle.std.proofs.Common.{◌≡◌, ◌≢◌, ◌⊎◌, ◌<◌, ◌≤◌, ℕ, suc, ◌+◌, min, Bool, true, false, cond, ◌&&◌, ltb, List, [], ◌∷◌, ◌++◌, length, Option, Some, None, Result, Ok, Err, refl, sym, ap, subst, ◌∙◌, inl, inr, lit≤, arith}
 use Rattle.std.specs.Prelude.{codes, IfErr}
 use Rattle.std.specs.Str.{bytes_eq}
 use Rattle.std.proofs.lemmas.Bool.{ltb-false, ltb-true, le-ltb, lt-ltb}
@@ -14,12 +14,12 @@ use Rattle.text_lines.specs.Lines.{is_passed_over, lines_of}
 use Rattle.plan_files.specs.Spelling.{spelling, fits, item_in}
 use Rattle.plan_files.specs.Plans.{Makes, no_plan, with_item, is_new, agrees, within, item_bytes, total_of, is_complete}
 use Rattle.plan_files.specs.PlanReading.{Gives, item_taken, said_taken, line_taken, next_line, plan_from, plan_by, plan_in}
-use Rattle.plan_files.specs.PlanFaults.{IsBad, PassesFirst, PassesLimit, LineFault, StopsAt, Lacks, FirstFault}
+use Rattle.plan_files.specs.PlanFaults.{PassesFirst, PassesLimit, LineFault, StopsAt, Lacks, FirstFault}
 use Rattle.plan_files.specs.Binding.{◌>>=◌}
 use Rattle.std.proofs.lemmas.List.{append-nil}
 use Rattle.plan_files.proofs.Wording.{and-parts}
 use Rattle.plan_files.proofs.Saying.{item_was, item_read}
-use Rattle.plan_files.proofs.PlanLaws.{last_number, goes_over, said_taken_was, item_is_taken}
+use Rattle.plan_files.proofs.PlanLaws.{last_number, goes_over, said_taken_was}
 
 -- ---- one line
 

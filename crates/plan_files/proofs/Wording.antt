@@ -1,5 +1,5 @@
 -- Words cut from a line, and numbers read from words.
-use Rattle.std.proofs.Common.{◌≡◌, ◌<◌, ◌≤◌, ◌+◌, ◌^◌, ℕ, zero, suc, Bool, true, false, cond, not, ◌&&◌, ◌||◌, eqb, ltb, leb, List, [], ◌∷◌, length, get_or, take, drop, Some, None, Result, Ok, Err, refl, ap, arith, rules, subst, inl, inr}
+use Rattle.std.proofs.Common.{◌≡◌, ◌≤◌, ◌^◌, ℕ, zero, suc, Bool, true, false, cond, not, ◌&&◌, ◌||◌, eqb, ltb, leb, List, [], ◌∷◌, length, get_or, Some, None, Result, Ok, Err, refl, ap, arith, rules, subst, inl, inr}
 use Rattle.std.specs.Prelude.{IsUtf8, nat_le}
 use Rattle.std.specs.Result.{result_ok}
 use Rattle.std.specs.List.{list_all, onto_first}

@@ -1,5 +1,5 @@
 -- Reading a script: its lines, or the first bad one, or the limit on lines.
-use Rattle.std.specs.Prelude.{◌≡◌, ℕ, ◌+◌, Bool, true, false, nat_lt, if◌then◌else◌, List, [], ◌∷◌, ◌++◌, length, take, Option, Some, None, Result, Ok, Err, position}
+use Rattle.std.specs.Prelude.{ℕ, ◌+◌, Bool, true, false, nat_lt, if◌then◌else◌, List, [], ◌∷◌, ◌++◌, length, take, Option, Some, None, Result, Ok, Err, position}
 use Rattle.text_lines.specs.Answers as answers
 use Rattle.text_lines.specs.Lines.{is_passed_over, lines_of}
 use Rattle.plan_files.specs.declared.limits.What.TheVariants.{Lines}
