@@ -8,6 +8,12 @@
 #![tactic(auto)]
 
 mod edits;
+mod lines;
+mod paths;
+mod table;
+mod words;
 
 pub use configfs_tree::{admits_host, serves};
 pub use edits::{Edit, LinkEdit};
+pub use lines::read_edit;
+pub use table::apply;
