@@ -1,5 +1,9 @@
+pub mod Again
 pub mod Finding
+pub mod Found
 pub mod Maps
 pub mod Numbers
 pub mod Parts
+pub mod Saying
 pub mod Tells
+pub mod Told

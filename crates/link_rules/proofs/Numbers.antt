@@ -113,7 +113,7 @@ number_again n h =
 pub digits_of : (n : ℕ) → n < 2 ^ 64 → list_all (λ b. nat_le 48 b && nat_le b 57) (decimal n) ≡ true
 digits_of n h = digits_decimal own n h
 
-below_of : ℕ → Option ℕ → Option ℕ
+abbrev below_of : ℕ → Option ℕ → Option ℕ
 below_of limit o = option_and_then (λ n. cond (ltb n limit) (Some n) None) o
 
 below_was : (limit n : ℕ) (o : Option ℕ) → below_of limit o ≡ Some n → (o ≡ Some n) × (ltb n limit ≡ true)
