@@ -1,8 +1,9 @@
 -- Words that spell an edit say it.
-use Rattle.std.proofs.Common.{◌≡◌, ◌<◌, ◌≤◌, ◌^◌, ℕ, Bool, true, false, ◌&&◌, ltb, List, [], ◌∷◌, Some, refl, sym, ap, ◌∙◌, arith, lit≤}
+use Rattle.std.proofs.Common.{◌≡◌, ◌<◌, ◌≤◌, ◌^◌, ℕ, Bool, true, false, ◌&&◌, ltb, List, [], ◌∷◌, Option, Some, refl, sym, ap, ◌∙◌, arith, lit≤}
 use Rattle.std.specs.Prelude.{codes}
 use Rattle.std.specs.List.{AllByRecursion}
 use Rattle.std.specs.Fmt.{decimal}
+use Rattle.std.specs.Option.{option_and_then}
 use Rattle.std.proofs.lemmas.Bool.{ltb-true}
 use Rattle.configfs_rows.specs.Nqns.{is_nqn}
 use Rattle.configfs_tree.specs.Asked.{is_fitting}
@@ -14,7 +15,7 @@ use Rattle.link_rules.specs.declared.edits.Edit.{Edit}
 use Rattle.link_rules.specs.declared.edits.Edit.TheVariants as edit
 use Rattle.link_rules.specs.declared.edits.LinkEdit.{LinkEdit}
 use Rattle.link_rules.specs.declared.edits.LinkEdit.TheVariants as link
-use Rattle.link_rules.specs.Reading.{nqn_of, parts_of, outer_folder, inner_folder, folder_of, folder_in, link_between, link_of, link_in, path_said, set_of, set_said, edit_said}
+use Rattle.link_rules.specs.Reading.{nqn_of, parts_of, outer_folder, inner_folder, folder_of, folder_in, link_between, link_of, link_in, attr_named, path_said, set_of, set_said, edit_said}
 use Rattle.link_rules.specs.Spelling.{path_of, folder_parts, link_parts, attr_word, edit_words, fits_folder, fits_link, fits}
 use Rattle.link_rules.proofs.Numbers.{and-parts, digits_of, below_again}
 use Rattle.link_rules.proofs.Parts.{Slashless, parts_joined, digits_slashless, nqn_slashless}
@@ -71,7 +72,7 @@ ports_again : (id : ℕ) (sub : List ℕ) → ltb id (2 ^ 16) ≡ true → is_nq
 ports_again id sub e f = parts_joined (codes "ports") (decimal id ∷ codes "subsystems" ∷ sub ∷ []) refl
     (number_slashless id (2 ^ 16) low16 e, (refl, (nqn_slashless sub f, tt)))
 
-made_by : LinkEdit → Bool
+abbrev made_by : LinkEdit → Bool
 made_by (link.AllowHost sub host) = true
 made_by (link.DisallowHost sub host) = false
 made_by (link.LinkSubsystem id sub) = true
@@ -97,14 +98,36 @@ link_parts_again (link.UnlinkSubsystem id sub) e = let p = and-parts (ltb id (2 
 link_again : (l : LinkEdit) → fits_link l ≡ true → link_in (made_by l) (path_of (link_parts l)) ≡ Some l
 link_again l e = ap (link_of (made_by l)) (link_parts_again l e) ∙ link_of_again l e
 
+set_again : (f : Folder) (a : Attr) (value : List ℕ) → is_fitting (make.Set f a value) ≡ true
+    → set_of f a value ≡ Some (edit.Folder (make.Set f a value))
+unfolding set_of
+set_again f a value e = rw e refl
+
+abbrev to_mkdir : Option Folder → Option Edit
+to_mkdir o = option_and_then (λ f. Some (edit.Folder (make.Mkdir f))) o
+
+abbrev to_rmdir : Option Folder → Option Edit
+to_rmdir o = option_and_then (λ f. Some (edit.Folder (make.Rmdir f))) o
+
+abbrev to_set : List ℕ → List ℕ → Option Folder → Option Edit
+to_set attribute value o = option_and_then (λ f. option_and_then (λ a. set_of f a value)
+    (attr_named attribute)) o
+
+abbrev to_value : Folder → List ℕ → Option Attr → Option Edit
+to_value f value o = option_and_then (λ a. set_of f a value) o
+
+abbrev to_link : Option LinkEdit → Option Edit
+to_link o = option_and_then (λ l. Some (edit.Link l)) o
+
 pub edit_again : (e : Edit) → fits e ≡ true → edit_said (edit_words e) ≡ Some e
-unfolding path_said set_said set_of
-edit_again (edit.Folder (make.Mkdir f)) h = rw (folder_again f h) refl
-edit_again (edit.Folder (make.Rmdir f)) h = rw (folder_again f h) refl
+unfolding path_said set_said
+edit_again (edit.Folder (make.Mkdir f)) h = ap to_mkdir (folder_again f h)
+edit_again (edit.Folder (make.Rmdir f)) h = ap to_rmdir (folder_again f h)
 edit_again (edit.Folder (make.Set f a value)) h =
     let p = and-parts (fits_folder f) (is_fitting (make.Set f a value)) h in
-    rw (folder_again f p.0, attr_again a, p.1) refl
-edit_again (edit.Link (link.AllowHost sub host)) h = rw (link_again (link.AllowHost sub host) h) refl
-edit_again (edit.Link (link.DisallowHost sub host)) h = rw (link_again (link.DisallowHost sub host) h) refl
-edit_again (edit.Link (link.LinkSubsystem id sub)) h = rw (link_again (link.LinkSubsystem id sub) h) refl
-edit_again (edit.Link (link.UnlinkSubsystem id sub)) h = rw (link_again (link.UnlinkSubsystem id sub) h) refl
+    ap (to_set (attr_word a) value) (folder_again f p.0)
+    ∙ (ap (to_value f value) (attr_again a) ∙ set_again f a value p.1)
+edit_again (edit.Link (link.AllowHost sub host)) h = ap to_link (link_again (link.AllowHost sub host) h)
+edit_again (edit.Link (link.DisallowHost sub host)) h = ap to_link (link_again (link.DisallowHost sub host) h)
+edit_again (edit.Link (link.LinkSubsystem id sub)) h = ap to_link (link_again (link.LinkSubsystem id sub) h)
+edit_again (edit.Link (link.UnlinkSubsystem id sub)) h = ap to_link (link_again (link.UnlinkSubsystem id sub) h)

@@ -11,6 +11,10 @@ mod edits;
 mod lines;
 mod paths;
 mod table;
+#[cfg(test)]
+mod test_rows;
+#[cfg(test)]
+mod tests;
 mod words;
 
 pub use configfs_tree::{admits_host, serves};
