@@ -42,17 +42,25 @@ call_len : (word : List ℕ) (place line : ℕ) → length word ≡ 4 → place 
 call_len word place line four p l = omega (arith, four, numbers_len place line p l,
     length-append word ((32 ∷ decimal place) ++ (32 ∷ decimal line)))
 
-end_len : (word : List ℕ) → length word ≤ 9 → length ((32 ∷ word) ++ 10 ∷ []) ≤ 11
-end_len word short = omega (arith, short, length-append (32 ∷ word) (10 ∷ []))
+ended_len : (word tail : List ℕ) (place line most : ℕ) → length word ≡ 4 → place < 2 ^ 32
+    → line < 2 ^ 32 → length tail ≤ most → length (call_text word place line ++ tail) ≤ 26 + most
+ended_len word tail place line most four p l short = omega (arith, short,
+    call_len word place line four p l, length-append (call_text word place line) tail)
+
+edit_len : (word name tail : List ℕ) (place line : ℕ) → length word ≡ 4 → place < 2 ^ 32
+    → line < 2 ^ 32 → length name ≤ 9 → length tail ≤ 1
+    → length (call_text word place line ++ (32 ∷ name) ++ tail) ≤ 37
+edit_len word name tail place line four p l short one = omega (arith, short, one,
+    ended_len word (32 ∷ name) place line 10 four p l (omega (arith, short)),
+    length-append (call_text word place line ++ (32 ∷ name)) tail)
 
 -- a line of an edit has at most 37 bytes, one of a drain that ended 27
 line_len : (line : JournalLine) → IsNumbered line
     → length (line_text line) ≤ edit_count line * 37 + done_count line * 27
-line_len (Edit place line answer) (p, l) = omega (arith,
-    call_len (codes "edit") place line refl p l, end_len (answer_word answer) (short_word answer),
-    length-append (call_text (codes "edit") place line) ((32 ∷ answer_word answer) ++ 10 ∷ []))
-line_len (Done place line) (p, l) = omega (arith, call_len (codes "done") place line refl p l,
-    length-append (call_text (codes "done") place line) (10 ∷ []))
+line_len (Edit place line answer) (p, l) = edit_len (codes "edit") (answer_word answer) (10 ∷ [])
+    place line refl p l (short_word answer) (lit≤ tt)
+line_len (Done place line) (p, l) = ended_len (codes "done") (10 ∷ []) place line 1 refl p l
+    (lit≤ tt)
 
 lines_len : (lines : List JournalLine) → AllByRecursion IsNumbered lines
     → length (flat_map line_text lines) ≤ edits_in lines * 37 + dones_in lines * 27
