@@ -1,7 +1,6 @@
 -- How many bytes a journal has at most.
-use Rattle.std.specs.Prelude.{◌≤◌, ◌<◌, ℕ, ◌+◌, ◌*◌, ◌^◌, List, length}
-use Rattle.std.specs.List.{sum_by, AllByRecursion}
-use Rattle.journal_text.specs.Text.{journal_text}
+use Rattle.std.specs.Prelude.{ℕ, ◌+◌, ◌*◌, ◌&&◌, nat_le, Bool, List}
+use Rattle.std.specs.List.{sum_by}
 use Rattle.journal_text.specs.declared.lines.JournalLine.{JournalLine}
 use Rattle.journal_text.specs.declared.lines.JournalLine.TheVariants.{Edit, Done}
 use Rattle.journal_text.specs.declared.writing.TheConstants.{DONE_BYTES, EDIT_BYTES, HEAD_BYTES}
@@ -21,17 +20,21 @@ edits_in lines = sum_by edit_count lines
 abbrev pub dones_in : List JournalLine → ℕ
 dones_in lines = sum_by done_count lines
 
--- places and numbers of lines have 32 bits
-abbrev pub IsNumbered : JournalLine → Type 0
-IsNumbered (Edit place line answer) = (place < 2 ^ 32) × (line < 2 ^ 32)
-IsNumbered (Done place line) = (place < 2 ^ 32) × (line < 2 ^ 32)
+-- at most so many edits, and the ends of at most so many drains
+abbrev pub is_within : List JournalLine → ℕ → Bool
+is_within lines most = nat_le (edits_in lines) most && nat_le (dones_in lines) most
 
--- the room of a journal of so many edits, each with the end of its drain
+-- ---- the room that a line needs, and a journal
+abbrev pub line_room : JournalLine → ℕ
+line_room (Edit place line answer) = EDIT_BYTES
+line_room (Done place line) = DONE_BYTES
+
+abbrev pub lines_room : List JournalLine → ℕ
+lines_room lines = sum_by line_room lines
+
+abbrev pub journal_room : List JournalLine → ℕ
+journal_room lines = HEAD_BYTES + lines_room lines
+
+-- the room of a journal of so many edits, each with the end of a drain
 abbrev pub room_of : ℕ → ℕ
 room_of edits = HEAD_BYTES + edits * (EDIT_BYTES + DONE_BYTES)
-
--- a journal of at most so many edits, with at most one end of a drain for each, fits its room
-abbrev pub Fits : ℕ → List JournalLine → ℕ → Type 0
-Fits places lines edits = places < 2 ^ 32 → AllByRecursion IsNumbered lines
-    → edits_in lines ≤ edits → dones_in lines ≤ edits
-    → length (journal_text places lines) ≤ room_of edits

@@ -7,7 +7,11 @@
 #![tactic(auto)]
 
 mod lines;
+#[cfg(test)]
+mod tests;
 mod writing;
 
 pub use lines::{Answer, JournalLine};
-pub use writing::{DONE_BYTES, EDIT_BYTES, HEAD_BYTES, journals_fit, put_journal, put_line, room};
+pub use writing::{
+    DONE_BYTES, EDIT_BYTES, HEAD_BYTES, are_within, journals_fit, put_journal, put_line, room,
+};

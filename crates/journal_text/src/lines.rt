@@ -19,5 +19,8 @@ pub enum JournalLine {
         answer: Answer,
     },
     /// The end of a drain, with the number of the line that began it.
-    Done { place: u32, line: u32 },
+    Done {
+        place: u32,
+        line: u32,
+    },
 }

@@ -1,6 +1,6 @@
 pub mod Again
 pub mod Finding
-pub mod Found
+pub mod Laws
 pub mod Maps
 pub mod Numbers
 pub mod Parts

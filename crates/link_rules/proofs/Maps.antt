@@ -22,9 +22,9 @@ pub found_any : {X : Type 0} (p : X → Bool) (xs : List X) (x : X) → find p x
     → list_any p xs ≡ true
 found_any p [] x e = absurd (none_some x e)
 found_any p (y ∷ xs) x e = elim (cases_Bool (p y)) [
-    | inl here ↦ rw here refl
-    | inr beside ↦ let rest : find p xs ≡ Some x = rw beside at e in rw (beside, found_any p xs x rest) refl
-  ]
+  | inl here ↦ rw here refl
+  | inr beside ↦ let rest : find p xs ≡ Some x = rw beside at e in rw (beside, found_any p xs x rest) refl
+]
 
 module _ {K : Type 0} {R : K → K → Ordering} (o : IsTotalOrder R) (same : IsAntisymmetric R) where
   tied_is : (q k : K) → eq_by_cmp R q k ≡ true → q ≡ k

@@ -7,8 +7,11 @@
 //! what is read is spelled so, and what is spelled so is read.
 #![tactic(auto)]
 
+mod allowed_hosts;
 mod edits;
+mod found;
 mod lines;
+mod linked_subsystems;
 mod paths;
 mod table;
 #[cfg(test)]

@@ -135,13 +135,7 @@ fn port_link(made: bool, id: u16, sub: Nqn) -> LinkEdit
 }
 
 #[tactic(auto, unfolding(crate::specs::Reading::link_between))]
-fn link_between(
-    made: bool,
-    kind: &[u8],
-    name: &[u8],
-    inner: &[u8],
-    last: &[u8],
-) -> Option<LinkEdit>
+fn link_between(made: bool, kind: &[u8], name: &[u8], inner: &[u8], last: &[u8]) -> Option<LinkEdit>
     ensures { result ≡ link_between made kind.now name.now inner.now last.now }
 {
     if is_subsystem(kind) && inner == b"allowed_hosts".as_slice() {

@@ -1,5 +1,5 @@
 use Rattle.std.proofs.Common.{subst, List, ℕ}
-use Rattle.link_rules.proofs.Found.{spelled, only, fitting}
+use Rattle.link_rules.proofs.Laws.{spelled, only, fitting}
 use Rattle.link_rules.proofs.lines.read_edit.Goals as goal
 
 pub returns-clause-spelled : goal.returns-clause-spelled

@@ -1,6 +1,6 @@
 use Rattle.std.proofs.Common.{sym, ◌∙◌, refl, true, false}
 use Rattle.link_rules.proofs.Told.{on_taken, linked_told, linked_left}
-use Rattle.link_rules.proofs.table.unlink_subsystem.Goals as goal
+use Rattle.link_rules.proofs.linked_subsystems.unlink_subsystem.Goals as goal
 
 pub returns-clause-stays : goal.returns-clause-stays
 returns-clause-stays c =

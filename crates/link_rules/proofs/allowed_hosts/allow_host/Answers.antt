@@ -1,6 +1,6 @@
 use Rattle.std.proofs.Common.{sym, ◌∙◌, refl, true, false}
 use Rattle.link_rules.proofs.Told.{on_ok, allowed_told, allowed_left}
-use Rattle.link_rules.proofs.table.allow_host.Goals as goal
+use Rattle.link_rules.proofs.allowed_hosts.allow_host.Goals as goal
 
 pub returns-clause-stays : goal.returns-clause-stays
 returns-clause-stays c =

@@ -4,7 +4,7 @@ use Rattle.std.specs.FinMap as map
 use Rattle.std.specs.FinMap.{FinMap}
 use Rattle.configfs_rows.specs.declared.ports.PortRow.{PortRow}
 use Rattle.link_rules.proofs.Finding.{port_of}
-use Rattle.link_rules.proofs.table.port_of.Goals as goal
+use Rattle.link_rules.proofs.found.port_of.Goals as goal
 
 pub returns : goal.returns
 returns c = port_of c.args.t.now c.args.id c.get.result

@@ -1,6 +1,6 @@
 use Rattle.std.proofs.Common.{sym, ◌∙◌, refl, true, false}
 use Rattle.link_rules.proofs.Told.{on_ok, linked_told, linked_left}
-use Rattle.link_rules.proofs.table.link_subsystem.Goals as goal
+use Rattle.link_rules.proofs.linked_subsystems.link_subsystem.Goals as goal
 
 pub returns-clause-stays : goal.returns-clause-stays
 returns-clause-stays c =
