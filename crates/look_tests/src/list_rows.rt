@@ -1,4 +1,4 @@
-use crate::{NONE, OFF, World, WorldLook};
+use crate::{NONE, OFF, World, WorldLook, first_uncounted};
 use look_pages::{
     Choice, clear, count_chosen, emit, emit_word, list_part, put, put_byte, put_half, put_long,
     put_word,
@@ -136,24 +136,6 @@ fn lists_have_the_nsids_that_are_asked_for(rt: HostRuntime) {
     }
 }
 
-// Whether a page shows the NSIDs 1, 2 .. up to a number from its start on, and zeros after them.
-fn counts_up(page: &[u8], last: usize) -> bool {
-    for (at, byte) in page.iter().enumerate() {
-        let word = at / 4 + 1;
-        let want = if word > last || at % 4 > 1 {
-            0
-        } else if at % 4 == 0 {
-            word % 256
-        } else {
-            word / 256 % 256
-        };
-        if usize::from(*byte) != want {
-            return false;
-        }
-    }
-    true
-}
-
 #[test]
 fn a_list_ends_at_1024(rt: HostRuntime) -> Result<(), Fail> {
     let mut page = [0xee; 4096];
@@ -174,14 +156,18 @@ fn a_list_ends_at_1024(rt: HostRuntime) -> Result<(), Fail> {
         let mut look = WorldLook::new(&world);
         list_part(Choice::Enabled(0), &QUEUE, 0, &mut look, &mut page);
         if nsids <= 1024 {
-            assert!(rt; counts_up(&page, nsids as usize), "{nsids} NSIDs");
+            assert_eq!(rt;
+                first_uncounted(&page, 1, nsids as usize),
+                None,
+                "{nsids} NSIDs"
+            );
         } else {
             assert_eq!(rt;
                 &page[..4],
                 [0xff, 0xff, 0xff, 0xff].as_slice(),
                 "{nsids} NSIDs"
             );
-            assert!(rt; counts_up(&page[4..], 0), "{nsids} NSIDs");
+            assert_eq!(rt; first_uncounted(&page[4..], 1, 0), None, "{nsids} NSIDs");
         }
     }
     Ok(())

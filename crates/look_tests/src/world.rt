@@ -3,7 +3,7 @@ ghost use Rattle.sqe_cqe.specs.Answers.{HasShape};
 ghost use Rattle.look_tests.specs.Told.{number_at, offered_of, seen_of, state_of};
 ghost use Rattle.sqe_cqe.specs.declared.rows.TheConstants.{MAX_NSID};
 
-use sqe_cqe::{Ana, Look, MAX_NSID, NsRow, Offers, Seen};
+use sqe_cqe::{Ana, Bound, Ctrl, Look, MAX_NSID, NsRow, Offers, Seen};
 
 /// At an NSID where no namespace is configured.
 pub const NONE: u8 = 0;
@@ -28,6 +28,41 @@ pub struct World<'a> {
     pub nsids: u32,
     pub uuid: [u8; 16],
     pub nguid: [u8; 16],
+}
+
+impl<'a> World<'a> {
+    /// With these namespaces, serials of their last changes, and states of groups; all 2,048 NSIDs are
+    /// offered, and everything else is zero.
+    pub fn new(slots: &'a [u8], stamps: &'a [u32], states: &'a [u8]) -> Self {
+        World {
+            ready: true,
+            slots,
+            stamps,
+            states,
+            ana_stamp: 0,
+            ana_count: 0,
+            serial: 0,
+            nsids: MAX_NSID,
+            uuid: [0; 16],
+            nguid: [0; 16],
+        }
+    }
+}
+
+/// Controller 1 through its admin queue, connected at serial 0.
+pub fn controller() -> Ctrl {
+    Ctrl {
+        bound: Bound {
+            ctrl: 1,
+            qid: 0,
+            sub: 0,
+            port: 0,
+        },
+        since: 0,
+        subnqn: [0; 256],
+        serial: [b' '; 20],
+        model_name: [b' '; 40],
+    }
 }
 
 /// A look at such a configuration.
