@@ -77,7 +77,7 @@ pub(crate) fn read_log(
     look: &mut WorldLook<'_>,
     to: &mut [u8],
 ) -> u16 {
-    let len = to.len() as u32;
+    let len = (to.len() % 0x1_0000_0000) as u32;
     let low = (offset % 0x1_0000_0000) as u32;
     let high = (offset / 0x1_0000_0000) as u32;
     let count = (len / 4).wrapping_sub(1) % 0x1_0000;
