@@ -16,4 +16,4 @@ mod log_rows;
 mod world;
 
 pub use expected::{Fields, first_uncounted, first_wrong};
-pub use world::{NONE, OFF, World, WorldLook, controller};
+pub use world::{NONE, OFF, PORT, SUBSYSTEM, World, WorldLook, controller};
