@@ -10,6 +10,7 @@
 mod disks;
 mod law;
 mod limits;
+mod linked_rows;
 mod names;
 mod namespaces;
 mod nqn;
@@ -29,5 +30,5 @@ pub use nqn::Nqn;
 pub use ports::{Address, Groups, PortRow, Ports};
 pub use subsystems::{SubsystemPut, SubsystemRow, Subsystems};
 pub use values::{
-    group_number, is_adrfam, is_treq, is_trtype, may_be_path, may_be_text, parse_uuid, stands,
+    group_number, has_path, is_adrfam, is_treq, is_trtype, may_be_path, may_be_text, parse_uuid,
 };
