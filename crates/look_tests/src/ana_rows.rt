@@ -175,6 +175,36 @@ fn groups_are_listed_with_their_members(rt: HostRuntime) {
     assert_eq!(rt; member, [0, 0, 0, 0], "past the end");
 }
 
+// Five groups that are made and have no enabled namespace.
+const MADE_GROUPS: Fields<'static> = &[
+    ("number of groups", 8, &[5, 0]),
+    ("group", 16, &[1, 0, 0, 0]),
+    ("state", 32, &[1]),
+    ("group", 48, &[2, 0, 0, 0]),
+    ("state", 64, &[3]),
+    ("group", 80, &[3, 0, 0, 0]),
+    ("state", 96, &[4]),
+    ("group", 112, &[127, 0, 0, 0]),
+    ("state", 128, &[2]),
+    ("group", 144, &[128, 0, 0, 0]),
+    ("state", 160, &[15]),
+];
+
+#[test]
+fn made_groups_are_listed_without_members(rt: HostRuntime) {
+    let states = states();
+    let world = World::new(&[NONE, OFF], &[], &states);
+    let mut to = [0xee; 512];
+    ana_page(
+        &controller(),
+        false,
+        0,
+        &mut WorldLook::new(&world),
+        &mut to,
+    );
+    assert_eq!(rt; first_wrong(&to, MADE_GROUPS), None);
+}
+
 // No namespace and no group; group 1 alone; and 2,048 namespaces in a group that isn't made.
 #[test]
 fn the_smallest_and_the_largest_ana_log(rt: HostRuntime) {
