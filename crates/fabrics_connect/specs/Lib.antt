@@ -1,0 +1,4 @@
+pub mod Names
+pub mod Registers
+pub mod Checks
+pub mod After
