@@ -1,5 +1,5 @@
 -- What a fabrics command leaves, and its completion.
-use Rattle.std.specs.Prelude.{◌≤◌, ◌<◌, ◌^◌, ◌-◌, ℕ, zero, suc, Bool, true, false, List, [], ◌∷◌, ◌++◌, length, Option, Some, None, slice_set, slice_get, slice_index, bit_or, IsTrue}
+use Rattle.std.specs.Prelude.{◌≡◌, ◌+◌, ◌==◌, ◌&&◌, ◌≤◌, ◌<◌, ◌^◌, ◌-◌, ℕ, zero, suc, Bool, true, false, List, [], ◌∷◌, ◌++◌, length, Option, Some, None, slice_set, slice_get, slice_index, bit_or, IsTrue}
 use Rattle.configfs_rows.specs.declared.subsystems.SubsystemRow.{SubsystemRow}
 use Rattle.configfs_rows.specs.declared.limits.TheConstants.{MAX_CONTROLLERS}
 use Rattle.configfs_tree.specs.Asked.{subsystem_place_taken, port_place_taken}
@@ -152,11 +152,32 @@ pub record AttachedAreThere (t : Configuration) (controllers : List ControllerRo
   pub subsystems : (at : ℕ) → slice_index t.settings.attached.subsystems at ≤ length controllers
   pub ports : (at : ℕ) → slice_index t.settings.attached.ports at ≤ length controllers
 
--- what is accepted can be done: positions are in use, and there is room for one more controller; a QID is in range
+-- a new controller gets the next number, there is room for it, and its positions are in use
+pub record FitsNew (t : Configuration) (controllers : List ControllerRow) (bound : Bound) : Type 0
+  where
+    pub sub : IsTrue (subsystem_place_taken t bound.sub)
+    pub port : IsTrue (port_place_taken t bound.port)
+    pub admin : bound.qid ≡ 0
+    pub next : bound.ctrl ≡ length controllers + 1
+    pub room : length controllers < MAX_CONTROLLERS
+
+abbrev pub is_at : ℕ → ℕ → Option ControllerRow → Bool
+is_at sub port None = false
+is_at sub port (Some c) = (c.ctrl.bound.sub == sub) && (c.ctrl.bound.port == port)
+
+-- an I/O queue gets the positions of its controller, which are in use, and a QID in range
+pub record FitsJoined (t : Configuration) (controllers : List ControllerRow) (bound : Bound) : Type 0
+  where
+    pub sub : IsTrue (subsystem_place_taken t bound.sub)
+    pub port : IsTrue (port_place_taken t bound.port)
+    pub qid_low : 1 ≤ bound.qid
+    pub qid_high : bound.qid ≤ MAX_QID
+    pub theirs : is_at bound.sub bound.port (numbered controllers bound.ctrl) ≡ true
+
+-- what is accepted can be done
 abbrev pub FitsAnswer : Configuration → List ControllerRow → Answer → Type 0
 FitsAnswer t controllers (Refused fault) = Unit {0}
-FitsAnswer t controllers (Makes bound host) =
-    IsTrue (subsystem_place_taken t bound.sub) × IsTrue (port_place_taken t bound.port) × (length controllers < MAX_CONTROLLERS)
-FitsAnswer t controllers (Joins bound) = (1 ≤ bound.qid) × (bound.qid ≤ MAX_QID)
+FitsAnswer t controllers (Makes bound host) = FitsNew t controllers bound
+FitsAnswer t controllers (Joins bound) = FitsJoined t controllers bound
 FitsAnswer t controllers (Reads value) = Unit {0}
 FitsAnswer t controllers (Sets value) = Unit {0}

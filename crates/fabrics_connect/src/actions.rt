@@ -251,6 +251,8 @@ pub fn control(
         controllers.new ≡ controllers_after t.old controllers.old b.old a }
     ensures binding { let a = control_answer t.old controllers.old b.old e.now payload.now in
         b.new ≡ binding_after b.old a }
+    ensures accepted { let a = control_answer t.old controllers.old b.old e.now payload.now in
+        FitsAnswer t.old controllers.old a }
     ensures refused { result.cqe.status ≢ SUCCESS → (t.new ≡ t.old) × (controllers.new ≡ controllers.old) × (b.new ≡ b.old) × (result.published ≡ false) × (result.made ≡ None) }
     ensures attached { AttachedAreThere t.new controllers.new }
 {

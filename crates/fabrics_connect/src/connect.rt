@@ -1,12 +1,12 @@
 // The checks of Connect, in their order (NVMe over Fabrics 1.1, 3.3; Linux nvmet, fabrics-cmd.c).
-ghost use Rattle.std.specs.Prelude.{◌≡◌, ◌≤◌, ◌<◌, ◌+◌, ◌-◌, ◌==◌, ◌||◌, length, drop, Some, None, IsTrue};
+ghost use Rattle.std.specs.Prelude.{◌≡◌, ◌≤◌, ◌<◌, ◌+◌, ◌-◌, ◌==◌, ◌||◌, length, drop, Some, None, IsTrue, true, false};
 ghost use Rattle.configfs_tree.specs.Asked.{subsystem_place_taken, port_place_taken};
 ghost use Rattle.configfs_rows.specs.declared.limits.TheConstants.{MAX_CONTROLLERS};
 ghost use Rattle.sqe_cqe.specs.Connect.{connect_of};
 ghost use Rattle.std.specs.Option.{option_copied};
 ghost use Rattle.fabrics_connect.specs.declared.answer.Answer.TheVariants.{Refused};
-ghost use Rattle.fabrics_connect.specs.After.{FitsAnswer};
-ghost use Rattle.fabrics_connect.specs.Checks.{connect_answer, connect_checks, connected, decided, has_qid, is_of, numbered, port_asked, subsystem_asked};
+ghost use Rattle.fabrics_connect.specs.After.{FitsAnswer, is_at};
+ghost use Rattle.fabrics_connect.specs.Checks.{is_admin, connect_answer, connect_checks, connected, decided, has_qid, is_of, numbered, port_asked, subsystem_asked};
 
 use crate::answer::{Answer, Fault};
 use crate::names::{are_one_name, kept, name_or_empty};
@@ -71,7 +71,8 @@ pub(crate) fn row_of(controllers: &Controllers, number: u16) -> Option<&Controll
 
 // Whether a controller is there, at this subsystem and this port and of this host.
 fn is_theirs(controllers: &Controllers, number: u16, sub: u8, port: u8, host: &[u8; 256]) -> bool
-    ensures { result ≡ is_of (Some sub) (Some port) host.now (numbered controllers.now number) }
+    ensures is { result ≡ is_of (Some sub) (Some port) host.now (numbered controllers.now number) }
+    ensures there { IsTrue result → is_at sub port (numbered controllers.now number) ≡ true }
 {
     match row_of(controllers, number) {
         Some(row) => {
@@ -109,6 +110,8 @@ fn check_queue(
     requires sub_in_use { IsTrue (subsystem_place_taken t.now sub) }
     requires port_in_use { IsTrue (port_place_taken t.now port) }
     requires room { length controllers.now < MAX_CONTROLLERS }
+    requires theirs { is_admin e.now ≡ false → is_at sub port (numbered controllers.now
+        d.now.cntlid) ≡ true }
     ensures is { result ≡ decided (drop 6 (connect_checks t.now controllers.now id e.now d.now))
         (connected t.now controllers.now id e.now d.now) }
     ensures fits { FitsAnswer t.now controllers.now result }
