@@ -24,7 +24,13 @@ use Rattle.fabrics_connect.specs.Registers.{after_set, differ}
 -- a new controller, as admin commands see it: the texts of its subsystem, filled up
 abbrev pub ctrl_at : Bound → Option SubsystemRow → Ctrl
 ctrl_at bound None =
-    record { bound = bound; since = 0; subnqn = filled 256 0 []; serial = filled 20 32 []; model_name = filled 40 32 [] }
+    record {
+      bound = bound;
+      since = 0;
+      subnqn = filled 256 0 [];
+      serial = filled 20 32 [];
+      model_name = filled 40 32 [];
+    }
 ctrl_at bound (Some s) = record {
   bound = bound;
   since = 0;
@@ -38,9 +44,11 @@ new_ctrl t bound = ctrl_at bound (subsystem_row t bound.sub)
 
 -- it is not enabled, and no I/O queue is connected
 abbrev pub new_controller : Configuration → Bound → List ℕ → ControllerRow
-new_controller t bound host = record { ctrl = new_ctrl t bound; host = host; cc = 0; csts = 0; qids = 0 }
+new_controller t bound host =
+    record { ctrl = new_ctrl t bound; host = host; cc = 0; csts = 0; qids = 0 }
 
-abbrev pub changed_at : List ControllerRow → ℕ → (ControllerRow → ControllerRow) → Option ControllerRow → List ControllerRow
+abbrev pub changed_at : List ControllerRow → ℕ → (ControllerRow → ControllerRow)
+    → Option ControllerRow → List ControllerRow
 changed_at controllers at f None = controllers
 changed_at controllers at f (Some c) = slice_set controllers at (f c)
 
@@ -53,16 +61,20 @@ changed controllers (suc n) f = changed_at controllers n f (slice_get controller
 abbrev pub with_qid : ℕ → ControllerRow → ControllerRow
 with_qid qid c = record c { qids = bit_or c.qids (2 ^ (qid - 1)) }
 
-abbrev pub changed_bound : List ControllerRow → Option Bound → (ControllerRow → ControllerRow) → List ControllerRow
+abbrev pub changed_bound : List ControllerRow → Option Bound → (ControllerRow → ControllerRow)
+    → List ControllerRow
 changed_bound controllers None f = controllers
 changed_bound controllers (Some bound) f = changed controllers bound.ctrl f
 
--- ---- what is after: an accepted Connect makes a controller or connects a QID, a Property Set changes CC and CSTS, and
--- nothing else changes anything
-unfoldable pub controllers_after : Configuration → List ControllerRow → Binding → Answer → List ControllerRow
+-- ---- what is after: an accepted Connect makes a controller or connects a QID, a Property Set
+-- changes CC and CSTS, and nothing else changes anything
+unfoldable pub controllers_after : Configuration → List ControllerRow → Binding → Answer
+    → List ControllerRow
 controllers_after t controllers b (Refused fault) = controllers
-controllers_after t controllers b (Makes bound host) = controllers ++ new_controller t bound host ∷ []
-controllers_after t controllers b (Joins bound) = changed controllers bound.ctrl (with_qid bound.qid)
+controllers_after t controllers b (Makes bound host) =
+    controllers ++ new_controller t bound host ∷ []
+controllers_after t controllers b (Joins bound) =
+    changed controllers bound.ctrl (with_qid bound.qid)
 controllers_after t controllers b (Reads value) = controllers
 controllers_after t controllers b (Sets value) = changed_bound controllers b.bound (after_set value)
 
@@ -101,7 +113,8 @@ result_of (Joins bound) = bound.ctrl
 result_of (Reads value) = value
 result_of (Sets value) = 0
 
--- its SQ identifier is the queue's: of a Connect that is accepted the QID that it connects, and 0 of one that isn't
+-- its SQ identifier is the queue's: of a Connect that is accepted the QID that it connects, and 0
+-- of one that isn't
 unfoldable pub completion_of : Binding → Sqe → Answer → Cqe
 completion_of b e a = record {
   result = result_of a;
@@ -166,7 +179,8 @@ is_at sub port None = false
 is_at sub port (Some c) = (c.ctrl.bound.sub == sub) && (c.ctrl.bound.port == port)
 
 -- an I/O queue gets the positions of its controller, which are in use, and a QID in range
-pub record FitsJoined (t : Configuration) (controllers : List ControllerRow) (bound : Bound) : Type 0
+pub record FitsJoined (t : Configuration) (controllers : List ControllerRow) (bound : Bound) : Type
+    0
   where
     pub sub : IsTrue (subsystem_place_taken t bound.sub)
     pub port : IsTrue (port_place_taken t bound.port)

@@ -30,13 +30,18 @@ pub record Check : Type 0 where
 abbrev pub check : Bool → ℕ → ℕ → Check
 check fails status result = record { fails = fails; status = status; result = result }
 
+-- a parameter of a Connect, which the result names by its place
+abbrev pub invalid : Bool → ℕ → Check
+invalid fails place = check fails CONNECT_INVALID_PARAMETERS place
+
 abbrev pub refused : ℕ → ℕ → Answer
 refused status result = Refused (record { status = status; result = result })
 
 -- the first check that fails decides; if none does, what is accepted
 abbrev pub decided : List Check → Answer → Answer
 decided [] accepted = accepted
-decided (c ∷ checks) accepted = if c.fails then refused c.status c.result else decided checks accepted
+decided (c ∷ checks) accepted =
+    if c.fails then refused c.status c.result else decided checks accepted
 
 -- ---- what a Connect asks for
 -- the position of the subsystem that the data name
@@ -75,7 +80,8 @@ is_place (Some place) at = place == at
 
 abbrev pub is_of : Option ℕ → Option ℕ → List ℕ → Option ControllerRow → Bool
 is_of sub port host None = false
-is_of sub port host (Some c) = is_place sub c.ctrl.bound.sub && (is_place port c.ctrl.bound.port && same_name host c.host)
+is_of sub port host (Some c) =
+    is_place sub c.ctrl.bound.sub && (is_place port c.ctrl.bound.port && same_name host c.host)
 
 -- that subsystem has a controller at the queue's port with this CNTLID and this host NQN
 abbrev pub has_controller : Configuration → List ControllerRow → ℕ → ConnectData → Bool
@@ -86,9 +92,9 @@ abbrev pub has_qid : ℕ → Option ControllerRow → Bool
 has_qid qid None = false
 has_qid qid (Some c) = bit_at c.qids (qid - 1) == 1
 
--- a QID of a controller is connected
-abbrev pub is_connected : List ControllerRow → ℕ → ℕ → Bool
-is_connected controllers ctrl qid = has_qid qid (numbered controllers ctrl)
+-- a QID of the controller with a number is connected
+abbrev pub is_taken : List ControllerRow → ℕ → ℕ → Bool
+is_taken controllers ctrl qid = has_qid qid (numbered controllers ctrl)
 
 -- the Connect of an admin queue
 abbrev pub is_admin : Sqe → Bool
@@ -99,19 +105,24 @@ abbrev pub connect_checks : Configuration → List ControllerRow → ℕ → Sqe
 connect_checks t controllers id e d =
     check (not (e.sgl_len == CONNECT_LEN)) DATA_SGL_LENGTH_INVALID 0
     ∷ check (not (record_format_of e == 0)) CONNECT_INCOMPATIBLE_FORMAT 0
-    ∷ check (is_admin e && not (d.cntlid == NEW_CONTROLLER)) CONNECT_INVALID_PARAMETERS CNTLID_IN_DATA
-    ∷ check (not (is_served t id d)) CONNECT_INVALID_PARAMETERS SUBNQN_IN_DATA
+    ∷ invalid (is_admin e && not (d.cntlid == NEW_CONTROLLER)) CNTLID_IN_DATA
+    ∷ invalid (not (is_served t id d)) SUBNQN_IN_DATA
     ∷ check (is_admin e && not (is_admitted t d)) CONNECT_INVALID_HOST HOSTNQN_IN_DATA
-    ∷ check (not (is_admin e) && not (has_controller t controllers id d)) CONNECT_INVALID_PARAMETERS CNTLID_IN_DATA
-    ∷ check (nat_lt MAX_QID (qid_of e)) CONNECT_INVALID_PARAMETERS QID_IN_ENTRY
-    ∷ check ((queue_size_of e == 0) || nat_lt MAX_QUEUE_SIZE (queue_size_of e)) CONNECT_INVALID_PARAMETERS SQSIZE_IN_ENTRY
-    ∷ check (not (is_admin e) && is_connected controllers d.cntlid (qid_of e)) COMMAND_SEQUENCE_ERROR 0
+    ∷ invalid (not (is_admin e) && not (has_controller t controllers id d)) CNTLID_IN_DATA
+    ∷ invalid (nat_lt MAX_QID (qid_of e)) QID_IN_ENTRY
+    ∷ invalid ((queue_size_of e == 0) || nat_lt MAX_QUEUE_SIZE (queue_size_of e)) SQSIZE_IN_ENTRY
+    ∷ check (not (is_admin e) && is_taken controllers d.cntlid (qid_of e)) COMMAND_SEQUENCE_ERROR 0
     ∷ []
 
 -- what an accepted Connect binds the queue to
 abbrev pub bound_to : Configuration → ℕ → ℕ → ConnectData → ℕ → Bound
 bound_to t id ctrl d qid =
-    record { ctrl = ctrl; qid = qid; sub = unwrap_or (subsystem_asked t d) 0; port = unwrap_or (port_asked t id) 0 }
+    record {
+      ctrl = ctrl;
+      qid = qid;
+      sub = unwrap_or (subsystem_asked t d) 0;
+      port = unwrap_or (port_asked t id) 0;
+    }
 
 -- an admin queue makes the next controller, an I/O queue joins its own
 abbrev pub connected : Configuration → List ControllerRow → ℕ → Sqe → ConnectData → Answer
@@ -120,7 +131,8 @@ connected t controllers id e d =
     else Joins (bound_to t id d.cntlid d (qid_of e))
 
 unfoldable pub connect_answer : Configuration → List ControllerRow → ℕ → Sqe → ConnectData → Answer
-connect_answer t controllers id e d = decided (connect_checks t controllers id e d) (connected t controllers id e d)
+connect_answer t controllers id e d =
+    decided (connect_checks t controllers id e d) (connected t controllers id e d)
 
 -- ---- properties
 abbrev pub read_answer : Option ℕ → Answer
@@ -135,18 +147,22 @@ set_answer e =
 
 abbrev pub accessed : ControllerRow → Sqe → Answer
 accessed c e =
-    if fctype_of e == PROPERTY_GET then read_answer (property_at c (is_long_property_of e) (property_offset_of e)) else set_answer e
+    if fctype_of e == PROPERTY_GET
+    then read_answer (property_at c (is_long_property_of e) (property_offset_of e))
+    else set_answer e
 
 -- of a controller
 unfoldable pub property_answer : ControllerRow → Sqe → Answer
-property_answer c e = decided (check (not (e.sgl_len == 0)) DATA_SGL_LENGTH_INVALID 0 ∷ []) (accessed c e)
+property_answer c e =
+    decided (check (not (e.sgl_len == 0)) DATA_SGL_LENGTH_INVALID 0 ∷ []) (accessed c e)
 
 abbrev pub property_answer_at : Option ControllerRow → Sqe → Answer
 property_answer_at None e = refused INVALID_FIELD 0
 property_answer_at (Some c) e = property_answer c e
 
 -- ---- every fabrics command
--- a queue takes Connect until it is connected; then an admin queue takes Property Get and Property Set, an I/O queue nothing
+-- a queue takes Connect until it is connected; then an admin queue takes Property Get and Property
+-- Set, and an I/O queue nothing
 abbrev pub takes : Option Bound → ℕ → Bool
 takes None kind = kind == CONNECT
 takes (Some bound) kind = (bound.qid == 0) && ((kind == PROPERTY_GET) || (kind == PROPERTY_SET))
@@ -157,9 +173,11 @@ control_checks b e =
     ∷ check (not (e.flags == SGL)) INVALID_FIELD 0
     ∷ []
 
-abbrev pub own_answer : Configuration → List ControllerRow → ℕ → Option Bound → Sqe → List ℕ → Answer
+abbrev pub own_answer : Configuration → List ControllerRow → ℕ → Option Bound → Sqe → List ℕ
+    → Answer
 own_answer t controllers id None e payload = connect_answer t controllers id e (connect_of payload)
-own_answer t controllers id (Some bound) e payload = property_answer_at (numbered controllers bound.ctrl) e
+own_answer t controllers id (Some bound) e payload =
+    property_answer_at (numbered controllers bound.ctrl) e
 
 unfoldable pub control_answer : Configuration → List ControllerRow → Binding → Sqe → List ℕ → Answer
 control_answer t controllers b e payload =

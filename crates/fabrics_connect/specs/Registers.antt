@@ -15,9 +15,12 @@ is_enabled cc = bits 0 1 cc == 1
 abbrev pub asks_shutdown : ℕ → Bool
 asks_shutdown cc = not (bits 14 2 cc == 0)
 
--- queue entries of 64 and 16 bytes (IOSQES, IOCQES), pages of 4 KiB (MPS), round robin (AMS), the NVM command set (CSS)
+-- queue entries of 64 and 16 bytes (IOSQES, IOCQES), pages of 4 KiB (MPS), round robin (AMS), the
+-- NVM command set (CSS)
 abbrev pub can_enable : ℕ → Bool
-can_enable cc = (bits 16 4 cc == 6) && ((bits 20 4 cc == 4) && ((bits 7 4 cc == 0) && ((bits 11 3 cc == 0) && (bits 4 3 cc == 0))))
+can_enable cc =
+    (bits 16 4 cc == 6)
+    && ((bits 20 4 cc == 4) && ((bits 7 4 cc == 0) && ((bits 11 3 cc == 0) && (bits 4 3 cc == 0))))
 
 pub record Registers : Type 0 where
   pub cc : ℕ
@@ -31,17 +34,22 @@ not_ready csts = csts - bits 0 1 csts
 abbrev pub shut_down : ℕ → ℕ
 shut_down csts = csts - bits 2 2 csts * 4 + 8
 
--- CC becomes v. Where EN rises, CSTS is RDY, or CFS where v can't be met. Where EN falls, RDY and CC are cleared.
+-- CC becomes v. Where EN rises, CSTS is RDY, or CFS where v can't be met. Where EN falls, RDY and
+-- CC are cleared.
 abbrev pub by_enable : Registers → ℕ → Registers
 by_enable old v =
-    if is_enabled v && not (is_enabled old.cc) then record { cc = v; csts = if can_enable v then 1 else 2 }
-    else (if is_enabled old.cc && not (is_enabled v) then record { cc = 0; csts = not_ready old.csts }
+    if is_enabled v && not (is_enabled old.cc)
+    then record { cc = v; csts = if can_enable v then 1 else 2 }
+    else (if is_enabled old.cc && not (is_enabled v)
+    then record { cc = 0; csts = not_ready old.csts }
     else record { cc = v; csts = old.csts })
 
 -- a shutdown that v asks for, and CC didn't: RDY is cleared, SHST says complete, CC is cleared
 abbrev pub by_shutdown : Registers → ℕ → Registers → Registers
 by_shutdown old v new =
-    if asks_shutdown v && not (asks_shutdown old.cc) then record { cc = 0; csts = shut_down (not_ready new.csts) } else new
+    if asks_shutdown v && not (asks_shutdown old.cc)
+    then record { cc = 0; csts = shut_down (not_ready new.csts) }
+    else new
 
 -- CC and CSTS after a Property Set of v: enable or disable, then shutdown
 unfoldable pub registers_after : Registers → ℕ → Registers

@@ -94,7 +94,7 @@ fn make(t: &mut Tree, controllers: &mut Controllers, bound: Bound, host: [u8; 25
     requires attached { AttachedAreThere t.old controllers.old }
     ensures made { result ≡ new_ctrl t.old bound }
     ensures tree { t.new ≡ with_attached t.old bound.sub bound.port }
-    ensures controllers { controllers.new ≡ controllers.old ++ new_controller t.old bound host ∷ [] }
+    ensures rows { controllers.new ≡ controllers.old ++ new_controller t.old bound host ∷ [] }
 {
     let ctrl = ctrl_of(t, bound);
     t.attach(bound.sub, bound.port);
@@ -223,15 +223,18 @@ fn act(
 
 /// Does a fabrics command (opcode 7Fh) on a queue: Connect, Property Get or Property Set.
 ///
-/// Checks go in the order of `specs/Checks.antt`; the first that fails answers with its status and its result, and leaves
-/// tree, controllers and binding as before. An accepted admin Connect makes the next controller, attaches it to its
-/// subsystem and its port, and binds the queue; an I/O Connect connects its QID and binds the queue. A Property Set of CC
-/// enables, disables or shuts down the queue's controller. The completion carries the queue's QID, of a Connect that is
+/// Checks go in the order of `specs/Checks.antt`; the first that fails answers with its status and
+/// its result, and leaves tree, controllers and binding as before. An accepted admin Connect makes
+/// the next controller, attaches it to its subsystem and its port, and binds the queue; an I/O
+/// Connect connects its QID and binds the queue. A Property Set of CC enables, disables or shuts
+/// down the queue's controller. The completion carries the queue's QID, of a Connect that is
 /// accepted the QID that it connects.
 ///
-/// `payload` has as many bytes as the SGL length of a Connect says. On a queue that isn't connected there are fewer than 31
-/// controllers before. Takes no memory. A controller's keep-alive time isn't kept here: `sqe_cqe::keep_alive` reads it of an
-/// entry that made one. After NVMe over Fabrics 1.1, 3.3, 3.5 and 3.6, and Linux nvmet, fabrics-cmd.c.
+/// `payload` has as many bytes as the SGL length of a Connect says. A queue that isn't connected
+/// comes with fewer than 31 controllers, and no position has more attached than there are. Takes
+/// no memory. The keep-alive time isn't kept here: `sqe_cqe::keep_alive` reads it of the entry that
+/// made a controller. After NVMe over Fabrics 1.1, 3.3, 3.5 and 3.6, and Linux nvmet,
+/// fabrics-cmd.c.
 pub fn control(
     t: &mut Tree,
     controllers: &mut Controllers,
@@ -253,7 +256,9 @@ pub fn control(
         b.new ≡ binding_after b.old a }
     ensures accepted { let a = control_answer t.old controllers.old b.old e.now payload.now in
         FitsAnswer t.old controllers.old a }
-    ensures refused { result.cqe.status ≢ SUCCESS → (t.new ≡ t.old) × (controllers.new ≡ controllers.old) × (b.new ≡ b.old) × (result.published ≡ false) × (result.made ≡ None) }
+    ensures refused { result.cqe.status ≢ SUCCESS → (t.new ≡ t.old)
+        × (controllers.new ≡ controllers.old) × (b.new ≡ b.old) × (result.published ≡ false)
+        × (result.made ≡ None) }
     ensures attached { AttachedAreThere t.new controllers.new }
 {
     let answer = check(t, controllers, b, e, payload);

@@ -1,10 +1,11 @@
 //! Fabrics commands on the queues of a target: Connect, Property Get and Property Set.
 //!
-//! A queue starts unconnected. Connect binds an admin queue to a new controller of a subsystem that its port links, and an
-//! I/O queue to a controller that its host has there. Properties of an admin queue's controller enable it, disable it and
-//! shut it down. Which check refuses a command, with which status and result, is one table in order
-//! (`specs/Checks.antt`); what an accepted one leaves and tells stands in `specs/After.antt`. After NVMe over Fabrics 1.1,
-//! 3.3, 3.5 and 3.6, and Linux nvmet (drivers/nvme/target/fabrics-cmd.c, core.c).
+//! A queue starts unconnected. Connect binds an admin queue to a new controller of a subsystem that
+//! its port links, and an I/O queue to a controller that its host has there. Properties of an admin
+//! queue's controller enable it, disable it and shut it down. Which check refuses a command, with
+//! which status and result, is one table in order (`specs/Checks.antt`); what an accepted one leaves
+//! and tells stands in `specs/After.antt`. After NVMe over Fabrics 1.1, 3.3, 3.5 and 3.6, and Linux
+//! nvmet (drivers/nvme/target/fabrics-cmd.c, core.c).
 #![tactic(auto)]
 
 mod actions;

@@ -4,7 +4,8 @@ ghost use Rattle.fabrics_connect.specs.Registers.{after_set, asks_shutdown, bits
 
 use sqe_cqe::ControllerRow;
 
-/// Controller capabilities (CAP): queues of 128 entries that lie together, a timeout of 7.5 seconds, the NVM command set.
+/// Controller capabilities (CAP): queues of 128 entries that lie together, a timeout of 7.5
+/// seconds, the NVM command set.
 pub const CAPABILITIES: u64 = 0x0000_0020_0f01_007f;
 
 /// Version (VS): 1.4.

@@ -7,7 +7,8 @@ pub returns-clause-refused : goal.returns-clause-refused
 returns-clause-refused c = λ h.
     let a = c.check-answer.result in
     let told = c.act.ensures.told in
-    let left = left_by c.args.t.now c.args.controllers.now c.args.b.now c.args.e.now a (λ done. h (ap (λ (x : Control). x.cqe.status) told ∙ done)) in (
+    let left = left_by c.args.t.now c.args.controllers.now c.args.b.now c.args.e.now a
+    (λ done. h (ap (λ (x : Control). x.cqe.status) told ∙ done)) in (
       c.act.ensures.tree ∙ left.tree,
       c.act.ensures.controllers ∙ left.controllers,
       c.act.ensures.binding ∙ left.binding,
@@ -18,4 +19,5 @@ returns-clause-refused c = λ h.
 pub returns-clause-attached : goal.returns-clause-attached
 returns-clause-attached c =
     rw (c.act.ensures.tree, c.act.ensures.controllers)
-    (attached_kept c.args.t.now c.args.controllers.now c.args.b.now c.check-answer.result c.requires.attached)
+    (attached_kept c.args.t.now c.args.controllers.now c.args.b.now c.check-answer.result
+    c.requires.attached)

@@ -6,7 +6,8 @@ pub returns-clause-nqn : goal.returns-clause-nqn
 returns-clause-nqn c =
     let row = c.args._row.now in
     let found = c.subsystem_positions.ensures.of_position c.args._at row c.requires in
-    let short : length row.nqn ≤ 223 = nqn_len row.nqn (c.certify.ensures.sound.subsystems row.nqn row found).nqn in
+    let short : length row.nqn
+    ≤ 223 = nqn_len row.nqn (c.certify.ensures.sound.subsystems row.nqn row found).nqn in
     omega (arith, short)
 
 pub returns-clause-serial : goal.returns-clause-serial
