@@ -2,3 +2,4 @@ pub mod Names
 pub mod Registers
 pub mod Checks
 pub mod After
+pub mod Laws
