@@ -1,5 +1,5 @@
 -- What the laws say, in the subject's words.
-use Rattle.std.specs.Prelude.{◌≡◌, ◌≢◌, ◌≤◌, ◌%◌, ℕ, ◌==◌, ◌&&◌, not, Bool, true, List, Some, if◌then◌else◌}
+use Rattle.std.specs.Prelude.{length, ◌≡◌, ◌≢◌, ◌≤◌, ◌%◌, ℕ, ◌==◌, ◌&&◌, not, Bool, true, List, Some, if◌then◌else◌}
 use Rattle.std.specs.FinMap as map
 use Rattle.configfs_rows.specs.declared.subsystems.SubsystemRow.{SubsystemRow}
 use Rattle.configfs_rows.specs.declared.ports.PortRow.{PortRow}
@@ -7,7 +7,7 @@ use Rattle.configfs_tree.specs.declared.configuration.Configuration.{Configurati
 use Rattle.sqe_cqe.specs.Ready.{is_ready_row}
 use Rattle.sqe_cqe.specs.declared.connect.ConnectData.{ConnectData}
 use Rattle.sqe_cqe.specs.declared.controllers.ControllerRow.{ControllerRow}
-use Rattle.fabrics_connect.specs.Names.{name_in}
+use Rattle.fabrics_connect.specs.Names.{name_in, kept_name}
 use Rattle.fabrics_connect.specs.Registers.{after_set, asks_shutdown, can_enable, is_enabled}
 use Rattle.fabrics_connect.specs.Checks.{has_qid}
 use Rattle.fabrics_connect.specs.After.{with_qid}
@@ -39,3 +39,7 @@ abbrev pub ReadyAfterSet : Type 0
 ReadyAfterSet = (c : ControllerRow) (v : ℕ) → is_ready_row (after_set v c)
     ≡ (is_enabled v && (not (begins_shutdown c v)
     && (if is_enabled c.cc then c.csts % 2 == 1 else can_enable v)))
+
+-- a field of Connect data and what a controller keeps of it name the same, or both nothing
+abbrev pub KeptNamesTheSame : Type 0
+KeptNamesTheSame = (field : List ℕ) → length field ≡ 256 → name_in (kept_name field) ≡ name_in field

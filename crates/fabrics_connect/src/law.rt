@@ -1,7 +1,7 @@
 // Laws of the definitions, each the contract of a function that does nothing.
 ghost use Rattle.std.specs.Prelude.{◌≡◌, ◌↔◌, ◌≤◌, ℕ, IsTrue, true};
 ghost use Rattle.fabrics_connect.specs.Checks.{is_served};
-ghost use Rattle.fabrics_connect.specs.Laws.{ConnectsJustThisQid, IsServedByName, ReadyAfterSet};
+ghost use Rattle.fabrics_connect.specs.Laws.{ConnectsJustThisQid, IsServedByName, KeptNamesTheSame, ReadyAfterSet};
 
 use configfs_tree::{Tree, port_positions, subsystem_positions};
 use sqe_cqe::ConnectData;
@@ -25,4 +25,10 @@ pub fn served_by_name(_t: &Tree, _id: u16, _d: &ConnectData)
 /// and it was ready before, or is enabled now with sizes that are known.
 pub fn ready_after_set()
     ensures { ReadyAfterSet }
+{}
+
+/// What a controller keeps of its host's field names the same as the field: zeros after the name
+/// change no name, and a field that names nothing stays one.
+pub fn kept_names_the_same()
+    ensures { KeptNamesTheSame }
 {}

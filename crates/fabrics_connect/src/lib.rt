@@ -22,5 +22,5 @@ pub use connect::{
     CNTLID_IN_DATA, CONNECT_LEN, HOSTNQN_IN_DATA, MAX_QID, MAX_QUEUE_SIZE, NEW_CONTROLLER,
     QID_IN_ENTRY, SQSIZE_IN_ENTRY, SUBNQN_IN_DATA,
 };
-pub use law::{connects_just_this_qid, ready_after_set, served_by_name};
+pub use law::{connects_just_this_qid, kept_names_the_same, ready_after_set, served_by_name};
 pub use registers::{CAPABILITIES, OFFSET_CAP, OFFSET_CC, OFFSET_CSTS, OFFSET_VS, VERSION};
