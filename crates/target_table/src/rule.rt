@@ -1,0 +1,313 @@
+//! The rule of the table, and what each step tells.
+ghost use Rattle.std.specs.Prelude.{ℕ};
+ghost use Rattle.ref_state.specs.declared.kinds.Take.{Take as TakeOf};
+ghost use Rattle.ref_state.specs.declared.kinds.Take.TheVariants.{Nothing};
+
+use crate::meaning::{Called, Drained, Held, Means};
+use atomic_table::{Join, Play, Split, TableRule};
+use lists::items::Items;
+use ref_state::kinds::Tag;
+use ref_state::state::{Editor, View};
+use std::collections::LinkedList;
+use std::marker::{Brand, PhantomData};
+
+/// All calls of a caller. One seat at most has it. No value of it is made.
+pub struct Claim {
+    pub caller: u32,
+    pub own: LinkedList<Tag>,
+}
+
+/// What a seat or a part knows. No value of it is made.
+pub struct Told {
+    /// What it keeps.
+    pub view: View,
+    /// What the editor's seat keeps beside.
+    pub desk: Editor,
+    /// How many seats there are.
+    pub seats: u32,
+    /// The number of the next seat that is made, and the quotas of those that aren't made yet, which the first seat has.
+    pub dealt: u32,
+    pub undealt: LinkedList<u32>,
+    /// The history as far as it has seen it.
+    pub known: LinkedList<Tag>,
+    /// Beginnings of the history that joined seats had seen.
+    pub heard: LinkedList<LinkedList<Tag>>,
+    /// The callers whose calls it may draw, with all their calls so far.
+    pub claims: LinkedList<Claim>,
+    /// Each word that it looked at, with what it found, the newest first.
+    pub found: LinkedList<(u64, u64)>,
+}
+
+/// What is fixed when the table is made.
+#[derive(Drop)]
+pub struct Plan {
+    pub quotas: Items<u32>,
+    pub disks: u32,
+    pub slots: u32,
+    pub rows: u32,
+}
+
+pub struct Law<M> {
+    meaning: PhantomData<M>,
+}
+
+impl<S, M: Means<S>> TableRule<S, Told, Plan> for Law<M> {
+    ghost use Rattle.target_table.specs.Shown.{Shows, first};
+
+    ghost holds = { λ key. Shows M.means key };
+
+    ghost first = { λ key. first M.means key };
+}
+
+pub struct Enter;
+
+impl<S> Play<S, Told> for Enter {
+    ghost use Rattle.target_table.specs.Plays.{enters};
+
+    ghost then = { enters };
+}
+
+pub struct Leave;
+
+impl<S> Play<S, Told> for Leave {
+    ghost use Rattle.target_table.specs.Plays.{leaves};
+
+    ghost then = { leaves };
+}
+
+pub struct Look;
+
+impl<S> Play<S, Told> for Look {
+    ghost use Rattle.target_table.specs.Plays.{looks};
+
+    ghost then = { looks };
+}
+
+pub struct Store;
+
+impl<S> Play<S, Told> for Store {
+    ghost use Rattle.target_table.specs.Plays.{stores};
+
+    ghost then = { stores };
+}
+
+pub struct Load<M> {
+    meaning: PhantomData<M>,
+}
+
+impl<S, M: Means<S>> Play<S, Told> for Load<M> {
+    ghost use Rattle.target_table.specs.Plays.{loads};
+
+    ghost then = { loads M.means };
+}
+
+pub struct Draw<M, C> {
+    meaning: PhantomData<M>,
+    called: PhantomData<C>,
+}
+
+impl<S, M: Means<S>, C: Called> Play<S, Told> for Draw<M, C> {
+    ghost use Rattle.target_table.specs.Plays.{draws};
+
+    ghost then = { draws M.means C.tag };
+}
+
+pub struct Publish<M, C> {
+    meaning: PhantomData<M>,
+    called: PhantomData<C>,
+}
+
+impl<S, M: Means<S>, C: Called> Play<S, Told> for Publish<M, C> {
+    ghost use Rattle.target_table.specs.Plays.{publishes};
+
+    ghost then = { publishes M.means C.tag };
+}
+
+pub struct Learn<M> {
+    meaning: PhantomData<M>,
+}
+
+impl<S, M: Means<S>> Play<S, Told> for Learn<M> {
+    ghost use Rattle.target_table.specs.Plays.{learns};
+
+    ghost then = { learns M.means };
+}
+
+/// A seat is made.
+pub struct Deal;
+
+impl Split<Told> for Deal {
+    ghost use Rattle.target_table.specs.Shown.{dealing, dealt_seat};
+
+    ghost left = { dealing };
+
+    ghost right = { dealt_seat };
+}
+
+/// What a part takes.
+pub trait Taken {
+    ghost take: { TakeOf };
+
+    /// Whose claim goes with it.
+    ghost caller: { ℕ };
+}
+
+impl Taken for Brand {
+    ghost take = { Nothing };
+
+    ghost caller = { 0 };
+}
+
+pub struct Cut<C> {
+    taken: PhantomData<C>,
+}
+
+impl<C: Taken> Split<Told> for Cut<C> {
+    ghost use Rattle.target_table.specs.Shown.{cutting, part_of};
+
+    ghost left = { cutting C.take C.caller };
+
+    ghost right = { part_of C.take C.caller };
+}
+
+pub struct Gather;
+
+impl Join<Told> for Gather {
+    ghost use Rattle.target_table.specs.Shown.{joining, gone};
+
+    ghost both = { joining };
+
+    ghost spent = { gone };
+}
+
+pub struct LoadMode;
+
+impl<S> Play<S, Told> for LoadMode {
+    ghost use Rattle.target_table.specs.Plays.{loads_mode};
+
+    ghost then = { loads_mode };
+}
+
+pub struct GetOwn;
+
+impl<S> Play<S, Told> for GetOwn {
+    ghost use Rattle.target_table.specs.Plays.{adds_own};
+    ghost use Rattle.std.specs.Prelude.{true};
+
+    ghost then = { adds_own true };
+}
+
+pub struct PutOwn;
+
+impl<S> Play<S, Told> for PutOwn {
+    ghost use Rattle.target_table.specs.Plays.{adds_own};
+    ghost use Rattle.std.specs.Prelude.{false};
+
+    ghost then = { adds_own false };
+}
+
+pub struct GetShared;
+
+impl<S> Play<S, Told> for GetShared {
+    ghost use Rattle.target_table.specs.Plays.{adds_shared};
+    ghost use Rattle.std.specs.Prelude.{true};
+
+    ghost then = { adds_shared true };
+}
+
+pub struct PutShared;
+
+impl<S> Play<S, Told> for PutShared {
+    ghost use Rattle.target_table.specs.Plays.{adds_shared};
+    ghost use Rattle.std.specs.Prelude.{false};
+
+    ghost then = { adds_shared false };
+}
+
+pub struct TakeTurn<M> {
+    meaning: PhantomData<M>,
+}
+
+impl<S, M: Means<S>> Play<S, Told> for TakeTurn<M> {
+    ghost use Rattle.target_table.specs.Plays.{takes_turn};
+
+    ghost then = { takes_turn M.means };
+}
+
+pub struct GiveTurn;
+
+impl<S> Play<S, Told> for GiveTurn {
+    ghost use Rattle.target_table.specs.Plays.{gives_turn};
+
+    ghost then = { gives_turn };
+}
+
+pub struct Execute<M, H> {
+    meaning: PhantomData<M>,
+    held: PhantomData<H>,
+}
+
+impl<S, M: Means<S>, H: Held> Play<S, Told> for Execute<M, H> {
+    ghost use Rattle.target_table.specs.Plays.{executes};
+
+    ghost then = { executes M.means H.tag H.hold };
+}
+
+pub struct Kill;
+
+impl<S> Play<S, Told> for Kill {
+    ghost use Rattle.target_table.specs.Plays.{kills};
+
+    ghost then = { kills };
+}
+
+pub struct LookCounter;
+
+impl<S> Play<S, Told> for LookCounter {
+    ghost use Rattle.target_table.specs.Plays.{counts};
+
+    ghost then = { counts };
+}
+
+pub struct Fold;
+
+impl<S> Play<S, Told> for Fold {
+    ghost use Rattle.target_table.specs.Plays.{folds};
+
+    ghost then = { folds };
+}
+
+pub struct LookZero;
+
+impl<S> Play<S, Told> for LookZero {
+    ghost use Rattle.target_table.specs.Plays.{looks_zero};
+
+    ghost then = { looks_zero };
+}
+
+pub struct LiveShared;
+
+impl<S> Play<S, Told> for LiveShared {
+    ghost use Rattle.target_table.specs.Plays.{arms};
+
+    ghost then = { arms };
+}
+
+pub struct LiveMode;
+
+impl<S> Play<S, Told> for LiveMode {
+    ghost use Rattle.target_table.specs.Plays.{revives};
+
+    ghost then = { revives };
+}
+
+pub struct End<M, C> {
+    meaning: PhantomData<M>,
+    drained: PhantomData<C>,
+}
+
+impl<S, M: Means<S>, C: Drained> Play<S, Told> for End<M, C> {
+    ghost use Rattle.target_table.specs.Plays.{ends};
+
+    ghost then = { ends M.means C.tag C.disk };
+}
