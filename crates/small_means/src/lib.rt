@@ -21,6 +21,8 @@ impl Means<u64> for SmallMeaning {
 
     type Fixed = u64;
 
+    type Desk = (u64, u64);
+
     type Reply = u64;
 
     ghost means = { small_means };

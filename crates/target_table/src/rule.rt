@@ -22,7 +22,7 @@ pub struct Told {
     /// What it keeps.
     pub view: View,
     /// What the editor's seat keeps beside.
-    pub desk: Editor,
+    pub notes: Editor,
     /// How many seats there are.
     pub seats: u32,
     /// The number of the next seat that is made, and the quotas of those that aren't made yet, which the first seat has.
@@ -51,7 +51,7 @@ pub struct Law<M> {
     meaning: PhantomData<M>,
 }
 
-impl<S, M: Means<S>> TableRule<S, Told, Plan> for Law<M> {
+impl<S, M: Means<S>> TableRule<Option<S>, Told, Plan> for Law<M> {
     ghost use Rattle.target_table.specs.Shown.{Shows, first};
 
     ghost holds = { λ key. Shows M.means key };
@@ -61,7 +61,7 @@ impl<S, M: Means<S>> TableRule<S, Told, Plan> for Law<M> {
 
 pub struct Enter;
 
-impl<S> Play<S, Told> for Enter {
+impl<S> Play<Option<S>, Told> for Enter {
     ghost use Rattle.target_table.specs.Plays.{enters};
 
     ghost then = { enters };
@@ -69,7 +69,7 @@ impl<S> Play<S, Told> for Enter {
 
 pub struct Leave;
 
-impl<S> Play<S, Told> for Leave {
+impl<S> Play<Option<S>, Told> for Leave {
     ghost use Rattle.target_table.specs.Plays.{leaves};
 
     ghost then = { leaves };
@@ -77,7 +77,7 @@ impl<S> Play<S, Told> for Leave {
 
 pub struct Look;
 
-impl<S> Play<S, Told> for Look {
+impl<S> Play<Option<S>, Told> for Look {
     ghost use Rattle.target_table.specs.Plays.{looks};
 
     ghost then = { looks };
@@ -85,7 +85,7 @@ impl<S> Play<S, Told> for Look {
 
 pub struct Store;
 
-impl<S> Play<S, Told> for Store {
+impl<S> Play<Option<S>, Told> for Store {
     ghost use Rattle.target_table.specs.Plays.{stores};
 
     ghost then = { stores };
@@ -95,7 +95,7 @@ pub struct Load<M> {
     meaning: PhantomData<M>,
 }
 
-impl<S, M: Means<S>> Play<S, Told> for Load<M> {
+impl<S, M: Means<S>> Play<Option<S>, Told> for Load<M> {
     ghost use Rattle.target_table.specs.Plays.{loads};
 
     ghost then = { loads M.means };
@@ -106,7 +106,7 @@ pub struct Draw<M, C> {
     called: PhantomData<C>,
 }
 
-impl<S, M: Means<S>, C: Called> Play<S, Told> for Draw<M, C> {
+impl<S, M: Means<S>, C: Called> Play<Option<S>, Told> for Draw<M, C> {
     ghost use Rattle.target_table.specs.Plays.{draws};
 
     ghost then = { draws M.means C.tag };
@@ -117,7 +117,7 @@ pub struct Publish<M, C> {
     called: PhantomData<C>,
 }
 
-impl<S, M: Means<S>, C: Called> Play<S, Told> for Publish<M, C> {
+impl<S, M: Means<S>, C: Called> Play<Option<S>, Told> for Publish<M, C> {
     ghost use Rattle.target_table.specs.Plays.{publishes};
 
     ghost then = { publishes M.means C.tag };
@@ -127,7 +127,7 @@ pub struct Learn<M> {
     meaning: PhantomData<M>,
 }
 
-impl<S, M: Means<S>> Play<S, Told> for Learn<M> {
+impl<S, M: Means<S>> Play<Option<S>, Told> for Learn<M> {
     ghost use Rattle.target_table.specs.Plays.{learns};
 
     ghost then = { learns M.means };
@@ -147,15 +147,10 @@ impl Split<Told> for Deal {
 /// What a part takes.
 pub trait Taken {
     ghost take: { TakeOf };
-
-    /// Whose claim goes with it.
-    ghost caller: { ℕ };
 }
 
 impl Taken for Brand {
     ghost take = { Nothing };
-
-    ghost caller = { 0 };
 }
 
 pub struct Cut<C> {
@@ -165,9 +160,9 @@ pub struct Cut<C> {
 impl<C: Taken> Split<Told> for Cut<C> {
     ghost use Rattle.target_table.specs.Shown.{cutting, part_of};
 
-    ghost left = { cutting C.take C.caller };
+    ghost left = { cutting C.take };
 
-    ghost right = { part_of C.take C.caller };
+    ghost right = { part_of C.take };
 }
 
 pub struct Gather;
@@ -182,7 +177,7 @@ impl Join<Told> for Gather {
 
 pub struct LoadMode;
 
-impl<S> Play<S, Told> for LoadMode {
+impl<S> Play<Option<S>, Told> for LoadMode {
     ghost use Rattle.target_table.specs.Plays.{loads_mode};
 
     ghost then = { loads_mode };
@@ -190,7 +185,7 @@ impl<S> Play<S, Told> for LoadMode {
 
 pub struct GetOwn;
 
-impl<S> Play<S, Told> for GetOwn {
+impl<S> Play<Option<S>, Told> for GetOwn {
     ghost use Rattle.target_table.specs.Plays.{adds_own};
     ghost use Rattle.std.specs.Prelude.{true};
 
@@ -199,7 +194,7 @@ impl<S> Play<S, Told> for GetOwn {
 
 pub struct PutOwn;
 
-impl<S> Play<S, Told> for PutOwn {
+impl<S> Play<Option<S>, Told> for PutOwn {
     ghost use Rattle.target_table.specs.Plays.{adds_own};
     ghost use Rattle.std.specs.Prelude.{false};
 
@@ -208,7 +203,7 @@ impl<S> Play<S, Told> for PutOwn {
 
 pub struct GetShared;
 
-impl<S> Play<S, Told> for GetShared {
+impl<S> Play<Option<S>, Told> for GetShared {
     ghost use Rattle.target_table.specs.Plays.{adds_shared};
     ghost use Rattle.std.specs.Prelude.{true};
 
@@ -217,7 +212,7 @@ impl<S> Play<S, Told> for GetShared {
 
 pub struct PutShared;
 
-impl<S> Play<S, Told> for PutShared {
+impl<S> Play<Option<S>, Told> for PutShared {
     ghost use Rattle.target_table.specs.Plays.{adds_shared};
     ghost use Rattle.std.specs.Prelude.{false};
 
@@ -228,7 +223,7 @@ pub struct TakeTurn<M> {
     meaning: PhantomData<M>,
 }
 
-impl<S, M: Means<S>> Play<S, Told> for TakeTurn<M> {
+impl<S, M: Means<S>> Play<Option<S>, Told> for TakeTurn<M> {
     ghost use Rattle.target_table.specs.Plays.{takes_turn};
 
     ghost then = { takes_turn M.means };
@@ -236,7 +231,7 @@ impl<S, M: Means<S>> Play<S, Told> for TakeTurn<M> {
 
 pub struct GiveTurn;
 
-impl<S> Play<S, Told> for GiveTurn {
+impl<S> Play<Option<S>, Told> for GiveTurn {
     ghost use Rattle.target_table.specs.Plays.{gives_turn};
 
     ghost then = { gives_turn };
@@ -247,7 +242,7 @@ pub struct Execute<M, H> {
     held: PhantomData<H>,
 }
 
-impl<S, M: Means<S>, H: Held> Play<S, Told> for Execute<M, H> {
+impl<S, M: Means<S>, H: Held> Play<Option<S>, Told> for Execute<M, H> {
     ghost use Rattle.target_table.specs.Plays.{executes};
 
     ghost then = { executes M.means H.tag H.hold };
@@ -255,7 +250,7 @@ impl<S, M: Means<S>, H: Held> Play<S, Told> for Execute<M, H> {
 
 pub struct Kill;
 
-impl<S> Play<S, Told> for Kill {
+impl<S> Play<Option<S>, Told> for Kill {
     ghost use Rattle.target_table.specs.Plays.{kills};
 
     ghost then = { kills };
@@ -263,7 +258,7 @@ impl<S> Play<S, Told> for Kill {
 
 pub struct LookCounter;
 
-impl<S> Play<S, Told> for LookCounter {
+impl<S> Play<Option<S>, Told> for LookCounter {
     ghost use Rattle.target_table.specs.Plays.{counts};
 
     ghost then = { counts };
@@ -271,7 +266,7 @@ impl<S> Play<S, Told> for LookCounter {
 
 pub struct Fold;
 
-impl<S> Play<S, Told> for Fold {
+impl<S> Play<Option<S>, Told> for Fold {
     ghost use Rattle.target_table.specs.Plays.{folds};
 
     ghost then = { folds };
@@ -279,7 +274,7 @@ impl<S> Play<S, Told> for Fold {
 
 pub struct LookZero;
 
-impl<S> Play<S, Told> for LookZero {
+impl<S> Play<Option<S>, Told> for LookZero {
     ghost use Rattle.target_table.specs.Plays.{looks_zero};
 
     ghost then = { looks_zero };
@@ -287,7 +282,7 @@ impl<S> Play<S, Told> for LookZero {
 
 pub struct LiveShared;
 
-impl<S> Play<S, Told> for LiveShared {
+impl<S> Play<Option<S>, Told> for LiveShared {
     ghost use Rattle.target_table.specs.Plays.{arms};
 
     ghost then = { arms };
@@ -295,7 +290,7 @@ impl<S> Play<S, Told> for LiveShared {
 
 pub struct LiveMode;
 
-impl<S> Play<S, Told> for LiveMode {
+impl<S> Play<Option<S>, Told> for LiveMode {
     ghost use Rattle.target_table.specs.Plays.{revives};
 
     ghost then = { revives };
@@ -306,7 +301,7 @@ pub struct End<M, C> {
     drained: PhantomData<C>,
 }
 
-impl<S, M: Means<S>, C: Drained> Play<S, Told> for End<M, C> {
+impl<S, M: Means<S>, C: Drained> Play<Option<S>, Told> for End<M, C> {
     ghost use Rattle.target_table.specs.Plays.{ends};
 
     ghost then = { ends M.means C.tag C.disk };
