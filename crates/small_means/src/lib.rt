@@ -1,17 +1,21 @@
-//! The meaning of the small target, and a table of it.
+//! The meaning of the small target, and tables of it: what the running table is tested on.
 #![tactic(auto)]
 
-ghost use Rattle.std.specs.Prelude.{◌≡◌, ◌+◌, ◌<◌, ◌∷◌, [], IfOk, IfSome, length, replicate, slice_set};
-ghost use Rattle.target_table.specs.Shown.{first};
-ghost use Rattle.small_means.specs.SmallMeans.{small_means, small_words_at};
+ghost use Rattle.std.specs.Prelude.{◌≡◌, ◌+◌, ◌<◌, ◌≤◌, ◌∷◌, [], ℕ, IfOk, length, replicate};
+ghost use mathlib.Core.Option.{some};
+ghost use lib.ListN.{get_elem?};
+ghost use Rattle.ref_state.specs.Soundness.{sum_of};
+ghost use Rattle.target_table.specs.Shown.{opened_editor, opened_seat};
+ghost use Rattle.small_means.specs.SmallMeans.{small_means, small_plan};
 
 use lists::items::Items;
 use small_target::Small;
 use std::alloc::{AllocError, Global};
 use target_table::meaning::Means;
-use target_table::rule::Plan;
+use target_table::opening::Opening;
 use target_table::table::{Seat, TargetTable};
 
+/// The small target as the meaning of a table. An extent is one number.
 pub struct SmallMeaning;
 
 impl Means<u64> for SmallMeaning {
@@ -28,69 +32,45 @@ impl Means<u64> for SmallMeaning {
     ghost means = { small_means };
 }
 
-fn zeros(alloc: Global, n: usize) -> Result<Vec<u64>, AllocError>
-    ensures { IfOk result (λ v. v.items ≡ replicate n 0) }
+fn one_row(alloc: Global) -> Result<Vec<u64>, AllocError>
+    ensures { IfOk result (λ v. v.items ≡ 1 ∷ []) }
 {
-    let mut words = Vec::new(alloc);
-    let mut i = 0;
-    while i < n {
-        words.push(0)?;
-        i += 1;
-    }
-    Ok(words)
+    let mut rows = Vec::new(alloc);
+    rows.push(1)?;
+    Ok(rows)
 }
 
-fn lay(alloc: Global) -> Result<Vec<u64>, AllocError>
-    ensures { IfOk result (λ v. v.items ≡ small_words_at) }
+fn eight_extents(alloc: Global) -> Result<Vec<u64>, AllocError>
+    ensures { IfOk result (λ v. v.items ≡ replicate 8 0) }
 {
-    let mut words = zeros(alloc, 7704)?;
-    words[2576] = 9223372036854775808;
-    words[7688] = 1;
-    words[7696] = 1;
-    Ok(words)
+    let all = Items::copies(alloc, 8, 0)?;
+    Ok(all.into_vec())
 }
 
-fn plan(alloc: Global, one: u32, two: u32) -> Result<Plan, AllocError>
-    ensures { IfOk result (λ p. p ≡ record { quotas = one ∷ (two ∷ []); disks = 1; slots = 8; rows = 1 }) }
-{
-    let mut quotas = Items::new(alloc);
-    quotas.push(one)?;
-    quotas.push(two)?;
-    Ok(Plan {
-        quotas,
-        disks: 1,
-        slots: 8,
-        rows: 1,
-    })
-}
-
-/// A table of the small target with two seats.
-pub fn opened(
+/// A table of the small target at its start, with a seat for each quota: the editor's, and the
+/// others from number 1 on.
+pub fn open_small(
     alloc: Global,
-    one: u32,
-    two: u32,
-) -> Option<(TargetTable<u64, SmallMeaning>, Seat<u64>, Seat<u64>)>
-    requires few { one + two < 4294967296 }
-    ensures own { IfSome result (λ r. (r.1.place.table_id ≡ r.0.table.shared.table_id) × (r.2.place.table_id ≡ r.0.table.shared.table_id) × (r.0.table.shared.key.disks ≡ 1) × (r.0.table.shared.key.slots ≡ 8)) }
+    quotas: Vec<u32>,
+) -> Result<(TargetTable<u64, SmallMeaning>, Seat<u64>, Vec<Seat<u64>>), AllocError>
+    requires seats { (0 < length quotas.items) × (length quotas.items ≤ 32) }
+    requires places { sum_of quotas.items < 4294967296 }
+    ensures key { IfOk result (λ r. r.0.table.shared.key ≡ small_plan quotas.items) }
+    ensures editor { IfOk result (λ r. (r.1.base.table_id ≡ r.0.table.shared.table_id)
+        × (r.1.base.me ≡ (opened_editor small_means r.0.table.shared.key, []))) }
+    ensures count { IfOk result (λ r. length r.2.items + 1 ≡ length quotas.items) }
+    ensures others { IfOk result (λ r. (j : ℕ) (s : _) → get_elem? r.2.items j ≡ some s
+        → (s.base.table_id ≡ r.0.table.shared.table_id)
+        × (s.base.me ≡ (opened_seat r.0.table.shared.key (j + 1), []))) }
 {
-    let Ok(words) = lay(alloc) else {
-        return None;
-    };
-    let Ok(about) = plan(alloc, one, two) else {
-        return None;
-    };
-    let Ok(slots) = zeros(alloc, 8) else {
-        return None;
-    };
-    let Ok((table, mut seat)) = TargetTable::<u64, SmallMeaning>::open(
+    let rows = one_row(alloc)?;
+    let slots = eight_extents(alloc)?;
+    TargetTable::<u64, SmallMeaning>::open(
         alloc,
-        words.as_slice(),
-        slots,
-        &about,
-        one,
-    ) else {
-        return None;
-    };
-    let other = table.deal(&mut seat, 1, two);
-    Some((table, seat, other))
+        Opening {
+            rows,
+            slots,
+            quotas,
+        },
+    )
 }

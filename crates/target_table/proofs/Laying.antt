@@ -31,18 +31,26 @@ no_word (q ∷ qs) n (suc j) = no_word qs (n + 1) j
 
 -- one word more is laid
 module _ (key : Plan) (few : Few key) (rows ws : List ℕ) where
-  lay : (v w : Where → ℕ) (q : Where) (n : ℕ) → length ws ≡ width key.rows → ((o : Where) → Within key o → get_or ws (at o) 0 ≡ v o) → Within key q → w q ≡ n → ((o : Where) → o ≢ q → w o ≡ v o)
+  lay : (v w : Where → ℕ) (q : Where) (n : ℕ) → length ws ≡ width key.rows
+      → ((o : Where) → Within key o → get_or ws (at o) 0 ≡ v o) → Within key q → w q ≡ n
+      → ((o : Where) → o ≢ q → w o ≡ v o)
       → (o : Where) → Within key o → get_or (set ws (at q) n) (at o) 0 ≡ w o
   lay v w q n wide each near here others o close = dite (ℕ_discrete (at o) (at q))
       (λ e. let same : o ≡ q = one_word key few o q close near e in
-      subst (λ (z : Where). get_or (set ws (at q) n) (at z) 0 ≡ w z) (sym same) (get_or-set_same ws (at q) n 0 (let a = inside key few q near in omega arith) ∙ sym here))
-      (λ ne. get_or-set_other ws (at q) (at o) n 0 ne ∙ (each o close ∙ sym (others o (λ e. ne (ap at e)))))
+      subst (λ (z : Where). get_or (set ws (at q) n) (at z) 0 ≡ w z) (sym same)
+      (get_or-set_same ws (at q) n 0 (let a = inside key few q near in omega arith) ∙ sym here))
+      (λ ne. get_or-set_other ws (at q) (at o) n 0 ne
+      ∙ (each o close ∙ sym (others o (λ e. ne (ap at e)))))
 
 more_below : (a k : ℕ) → a ≢ k → nat_lt a (k + 1) ≡ nat_lt a k
 more_below a k ne = grind (arith, Rattle.std.proofs.lemmas.Bool.Decides.nat_tests)
 
 pub lay_none : (key : Plan) (n : ℕ) → n ≡ width key.rows → IsLaid key 0 0 0 [] (replicate n 0)
-lay_none key n is = record { wide = length-replicate n 0 ∙ is; each = λ o _. everywhere n (at o) 0 ∙ sym (nothing o) }
+lay_none key n is = record {
+  wide = length-replicate n 0 ∙ is;
+  each = λ o _. everywhere n (at o) 0
+      ∙ sym (nothing o);
+}
   where
     nothing : (o : Where) → laid 0 0 0 [] o ≡ 0
     nothing Clock = refl
@@ -54,10 +62,13 @@ lay_none key n is = record { wide = length-replicate n 0 ∙ is; each = λ o _. 
     nothing (RowOf zero w) = ap (λ b. cond b (get_or [] w 0) 0) (le-ltb w 0 (omega arith))
     nothing (RowOf (suc i) w) = ap (λ b. cond b (get_or [] w 0) 0) (le-ltb w 0 (omega arith))
 
-pub lay_bias : (key : Plan) → Few key → (k : ℕ) (ws : List ℕ) → k < key.disks → IsLaid key k 0 0 [] ws → IsLaid key (k + 1) 0 0 [] (set ws (2576 + 16 * k) bias)
+pub lay_bias : (key : Plan) → Few key → (k : ℕ) (ws : List ℕ) → k < key.disks
+    → IsLaid key k 0 0 [] ws → IsLaid key (k + 1) 0 0 [] (set ws (2576 + 16 * k) bias)
 lay_bias key few k ws near x = record {
   wide = length-set ws (2576 + 16 * k) bias ∙ x.wide;
-  each = lay key few [] ws (laid k 0 0 []) (laid (k + 1) 0 0 []) (SharedOf k) bias x.wide x.each near (ap (λ b. cond b bias 0) (lt-ltb k (k + 1) (omega arith))) others;
+  each = lay key few [] ws (laid k 0 0 []) (laid (k + 1) 0 0 [])
+      (SharedOf k) bias x.wide x.each near (ap (λ b. cond b bias 0)
+      (lt-ltb k (k + 1) (omega arith))) others;
 }
   where
     others : (o : Where) → o ≢ SharedOf k → laid (k + 1) 0 0 [] o ≡ laid k 0 0 [] o
@@ -71,7 +82,8 @@ lay_bias key few k ws near x = record {
     others (RowOf (suc i) w) ne = refl
 
 -- the words of no row are none of any
-pub no_rows : (key : Plan) (d : ℕ) (rows ws : List ℕ) → IsLaid key d 0 0 [] ws → IsLaid key d 0 0 rows ws
+pub no_rows : (key : Plan) (d : ℕ) (rows ws : List ℕ) → IsLaid key d 0 0 [] ws
+    → IsLaid key d 0 0 rows ws
 no_rows key d rows ws x = record { wide = x.wide; each = λ o near. x.each o near ∙ same o }
   where
     none : (l : List ℕ) (w : ℕ) → cond (nat_lt w 0) (get_or l w 0) 0 ≡ 0
@@ -88,10 +100,15 @@ no_rows key d rows ws x = record { wide = x.wide; each = λ o near. x.each o nea
     same (RowOf (suc i) w) = none [] w ∙ sym (none rows w)
 
 module _ (key : Plan) (few : Few key) (d k : ℕ) (rows ws : List ℕ) (near : k < key.rows) where
-  one_side : IsLaid key d k k rows ws → IsLaid key d (k + 1) k rows (set ws (at (RowOf 0 k)) (get_or rows k 0))
+  one_side : IsLaid key d k k rows ws → IsLaid key d (k + 1) k rows
+      (set ws (at (RowOf 0 k)) (get_or rows k 0))
   one_side x = record {
     wide = length-set ws (at (RowOf 0 k)) (get_or rows k 0) ∙ x.wide;
-    each = lay key few rows ws (laid d k k rows) (laid d (k + 1) k rows) (RowOf 0 k) (get_or rows k 0) x.wide x.each (omega arith, near) (ap (λ b. cond b (get_or rows k 0) 0) (lt-ltb k (k + 1) (omega arith))) others;
+    each = lay key few rows ws (laid d k k rows) (laid d (k + 1) k rows) (RowOf 0 k)
+        (get_or rows k 0) x.wide x.each (
+          omega arith,
+          near,
+        ) (ap (λ b. cond b (get_or rows k 0) 0) (lt-ltb k (k + 1) (omega arith))) others;
   }
     where
       others : (o : Where) → o ≢ RowOf 0 k → laid d (k + 1) k rows o ≡ laid d k k rows o
@@ -101,13 +118,20 @@ module _ (key : Plan) (few : Few key) (d k : ℕ) (rows ws : List ℕ) (near : k
       others (SharedOf e) ne = refl
       others (OwnOf e j) ne = refl
       others (TurnOf n) ne = refl
-      others (RowOf zero w) ne = ap (λ b. cond b (get_or rows w 0) 0) (more_below w k (λ e. ne (ap (RowOf 0) e)))
+      others (RowOf zero w) ne = ap (λ b. cond b (get_or rows w 0) 0)
+          (more_below w k (λ e. ne (ap (RowOf 0) e)))
       others (RowOf (suc i) w) ne = refl
 
-  other_side : (zs : List ℕ) → IsLaid key d (k + 1) k rows zs → IsLaid key d (k + 1) (k + 1) rows (set zs (at (RowOf 1 k)) (get_or rows k 0))
+  other_side : (zs : List ℕ) → IsLaid key d (k + 1) k rows zs
+      → IsLaid key d (k + 1) (k + 1) rows (set zs (at (RowOf 1 k)) (get_or rows k 0))
   other_side zs x = record {
     wide = length-set zs (at (RowOf 1 k)) (get_or rows k 0) ∙ x.wide;
-    each = λ o close. lay key few rows zs (laid d (k + 1) k rows) both (RowOf 1 k) (get_or rows k 0) x.wide x.each (omega arith, near) (ap (λ b. cond b (get_or rows k 0) 0) (lt-ltb k (k + 1) (omega arith))) others o close ∙ sides o close;
+    each = λ o close. lay key few rows zs (laid d (k + 1) k rows) both (RowOf 1 k)
+        (get_or rows k 0) x.wide x.each (
+          omega arith,
+          near,
+        ) (ap (λ b. cond b (get_or rows k 0) 0)
+        (lt-ltb k (k + 1) (omega arith))) others o close ∙ sides o close;
   }
     where
       -- the second side alone
@@ -130,7 +154,8 @@ module _ (key : Plan) (few : Few key) (d k : ℕ) (rows ws : List ℕ) (near : k
       others (OwnOf e j) ne = refl
       others (TurnOf n) ne = refl
       others (RowOf zero w) ne = refl
-      others (RowOf (suc zero) w) ne = ap (λ b. cond b (get_or rows w 0) 0) (more_below w k (λ e. ne (ap (RowOf 1) e)))
+      others (RowOf (suc zero) w) ne = ap (λ b. cond b (get_or rows w 0) 0)
+          (more_below w k (λ e. ne (ap (RowOf 1) e)))
       others (RowOf (suc (suc i)) w) ne = refl
 
       sides : (o : Where) → Within key o → both o ≡ laid d (k + 1) (k + 1) rows o
@@ -145,22 +170,32 @@ module _ (key : Plan) (few : Few key) (d k : ℕ) (rows ws : List ℕ) (near : k
       sides (RowOf (suc (suc i)) w) close = let z = close.0 in absurd (omega arith)
 
   pub lay_row : IsLaid key d k k rows ws
-      → IsLaid key d (k + 1) (k + 1) rows (set (set ws (7688 + (16 * (k / 8) + k % 8)) (get_or rows k 0)) (7688 + (16 * (k / 8) + k % 8) + 8) (get_or rows k 0))
-  lay_row x = let a : 7688 + (16 * (k / 8) + k % 8) ≡ at (RowOf 0 k) = omega arith in let b : 7688 + (16 * (k / 8) + k % 8) + 8 ≡ at (RowOf 1 k) = omega arith in
-      subst (λ (z : ℕ × ℕ). IsLaid key d (k + 1) (k + 1) rows (set (set ws z.0 (get_or rows k 0)) z.1 (get_or rows k 0))) (λ i. (sym a i, sym b i)) (other_side (set ws (at (RowOf 0 k)) (get_or rows k 0)) (one_side x))
+      → IsLaid key d (k + 1) (k + 1) rows (set (set ws (7688 + (16 * (k / 8) + k % 8))
+      (get_or rows k 0)) (7688 + (16 * (k / 8) + k % 8) + 8) (get_or rows k 0))
+  lay_row x = let a : 7688 + (16 * (k / 8) + k % 8) ≡ at (RowOf 0 k) = omega arith in
+      let b : 7688 + (16 * (k / 8) + k % 8) + 8 ≡ at (RowOf 1 k) = omega arith in
+      subst (λ (z : ℕ × ℕ). IsLaid key d (k + 1) (k + 1) rows
+      (set (set ws z.0 (get_or rows k 0)) z.1 (get_or rows k 0))) (λ i. (sym a i, sym b i))
+      (other_side (set ws (at (RowOf 0 k)) (get_or rows k 0)) (one_side x))
 
-pub all_laid : (key : Plan) (rows ws : List ℕ) → length rows ≡ key.rows → IsLaid key key.disks key.rows key.rows rows ws → Words key (opened_core key.quotas key.disks key.slots rows) ws
+pub all_laid : (key : Plan) (rows ws : List ℕ) → length rows ≡ key.rows
+    → IsLaid key key.disks key.rows key.rows rows ws
+    → Words key (opened_core key.quotas key.disks key.slots rows) ws
 all_laid key rows ws long x = record { wide = x.wide; each = λ o near. x.each o near ∙ same o near }
   where
     n : ℕ
     n = length key.quotas
 
-    same : (o : Where) → Within key o → laid key.disks key.rows key.rows rows o ≡ value (opened_core key.quotas key.disks key.slots rows) o
+    same : (o : Where) → Within key o → laid key.disks key.rows key.rows rows o ≡ value
+        (opened_core key.quotas key.disks key.slots rows) o
     same Clock near = refl
     same (SectionOf j) near = sym (no_word key.quotas 0 j)
-    same (ModeOf d) near = sym (ap (λ (k : Disk). k.mode) (within key.disks d (live_disk n) no_disk near))
-    same (SharedOf d) near = ap (λ b. cond b bias 0) (lt-ltb d key.disks near) ∙ sym (ap (λ (k : Disk). k.shared) (within key.disks d (live_disk n) no_disk near))
-    same (OwnOf d j) near = sym (ap (λ (k : Disk). word_of (get_or k.own j no_count)) (within key.disks d (live_disk n) no_disk near.0) ∙ ap word_of (everywhere n j no_count))
+    same (ModeOf d) near = sym (ap (λ (k : Disk). k.mode)
+        (within key.disks d (live_disk n) no_disk near))
+    same (SharedOf d) near = ap (λ b. cond b bias 0) (lt-ltb d key.disks near)
+        ∙ sym (ap (λ (k : Disk). k.shared) (within key.disks d (live_disk n) no_disk near))
+    same (OwnOf d j) near = sym (ap (λ (k : Disk). word_of (get_or k.own j no_count))
+        (within key.disks d (live_disk n) no_disk near.0) ∙ ap word_of (everywhere n j no_count))
     same (TurnOf m) near = sym (everywhere key.slots m 0)
     same (RowOf zero w) near = ap (λ b. cond b (get_or rows w 0) 0) (lt-ltb w key.rows near.1)
     same (RowOf (suc zero) w) near = ap (λ b. cond b (get_or rows w 0) 0) (lt-ltb w key.rows near.1)
@@ -175,7 +210,8 @@ drop_none (suc k) = refl
 pub drop_next : {A : Type 0} (k : ℕ) (l : List A) → drop 1 (drop k l) ≡ drop (k + 1) l
 drop_next zero l = refl
 drop_next (suc k) [] = sym (drop_none (suc k + 1))
-drop_next (suc k) (x ∷ xs) = drop_next k xs ∙ (let h : suc (k + 1) ≡ suc k + 1 = omega arith in ap (λ i. drop i (x ∷ xs)) h)
+drop_next (suc k) (x ∷ xs) = drop_next k xs ∙ (let h : suc (k + 1) ≡ suc k + 1 = omega arith in
+    ap (λ i. drop i (x ∷ xs)) h)
 
 pub drop_whole : {A : Type 0} (k : ℕ) (l : List A) → length l ≤ k → drop k l ≡ []
 drop_whole zero [] h = refl

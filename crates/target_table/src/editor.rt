@@ -32,7 +32,16 @@ impl<S, M: Means<S>> TargetTable<S, M> {
         requires near { word < self.now.table.shared.key.rows }
         requires passed { AllPassed seat.old.base.me.0.seats seat.old.base.me.0.notes.marks }
         ensures own { seat.new.base.table_id ≡ seat.old.base.table_id }
-        ensures view { seat.new.base.me ≡ (record seat.old.base.me.0 { notes = record seat.old.base.me.0.notes { pending = (word, value) ∷ seat.old.base.me.0.notes.pending } }, seat.old.base.me.1) }
+        ensures view { seat.new.base.me
+            ≡ (
+              record seat.old.base.me.0 {
+                notes = record seat.old.base.me.0.notes {
+                  pending
+                      = (word, value) ∷ seat.old.base.me.0.notes.pending;
+                };
+              },
+              seat.old.base.me.1,
+            ) }
         ensures ticks { steps.new ≡ record steps.old { row = steps.old.row + 1 } }
     {
         steps.tick_row();
@@ -55,7 +64,14 @@ impl<S, M: Means<S>> TargetTable<S, M> {
         requires editor { seat.old.number ≡ 0 }
         requires there { (other < seat.old.base.me.0.seats) × (other < 32) }
         ensures own { seat.new.base.table_id ≡ seat.old.base.table_id }
-        ensures view { seat.new.base.me ≡ (record seat.old.base.me.0 { notes = looked_at other result seat.old.base.me.0.notes; found = (at (SectionOf other), result) ∷ seat.old.base.me.0.found }, seat.old.base.me.1) }
+        ensures view { seat.new.base.me
+            ≡ (
+              record seat.old.base.me.0 {
+                notes = looked_at other result seat.old.base.me.0.notes;
+                found = (at (SectionOf other), result) ∷ seat.old.base.me.0.found;
+              },
+              seat.old.base.me.1,
+            ) }
         ensures ticks { steps.new ≡ record steps.old { row = steps.old.row + 1 } }
     {
         steps.tick_row();
@@ -71,11 +87,18 @@ impl<S, M: Means<S>> TargetTable<S, M> {
         requires kind { (3 < C.tag.kind) × (C.tag.kind < 7) }
         requires caller { 0 < total (claims_of C.tag.caller) seat.old.base.me.0.claims }
         requires passed { AllPassed seat.old.base.me.0.seats seat.old.base.me.0.notes.marks }
-        requires live { (d : ℕ) → d < self.now.table.shared.key.disks → slice_index (spare_of seat.old.base.me.0.notes) d ≢ 0 → (drain seat.old.base.me.0.notes d).phase ≡ IsLive }
-        requires words { (t : M.Target) → IsSteady M.means (target M.means seat.old.base.me.0.known) t → length (spare_of seat.old.base.me.0.notes) ≡ self.now.table.shared.key.rows → M.means.words (M.means.next t C.tag) ≡ spare_of seat.old.base.me.0.notes }
+        requires live { (d : ℕ) → d < self.now.table.shared.key.disks
+            → slice_index (spare_of seat.old.base.me.0.notes) d ≢ 0
+            → (drain seat.old.base.me.0.notes d).phase ≡ IsLive }
+        requires words { (t : M.Target) → IsSteady M.means
+            (target M.means seat.old.base.me.0.known) t
+            → length (spare_of seat.old.base.me.0.notes) ≡ self.now.table.shared.key.rows
+            → M.means.words (M.means.next t C.tag) ≡ spare_of seat.old.base.me.0.notes }
         requires tag { call ≡ C.tag }
-        ensures own { (seat.new.base.table_id ≡ seat.old.base.table_id) × (seat.new.base.me.1 ≡ seat.old.base.me.1) }
-        ensures published { Published M.means call seat.old.base.me.0 seat.new.base.me.0 result.0 result.1 }
+        ensures own { (seat.new.base.table_id ≡ seat.old.base.table_id)
+            × (seat.new.base.me.1 ≡ seat.old.base.me.1) }
+        ensures published { Published M.means call seat.old.base.me.0 seat.new.base.me.0 result.0
+            result.1 }
     {
         let _ = call;
         let found = self
@@ -104,10 +127,17 @@ impl<S, M: Means<S>> TargetTable<S, M> {
         requires editors { 5 < call.kind → call.caller ≡ 0 }
         requires caller { 0 < total (claims_of call.caller) seat.old.base.me.0.claims }
         requires passed { AllPassed seat.old.base.me.0.seats seat.old.base.me.0.notes.marks }
-        requires live { (d : ℕ) → d < self.now.table.shared.key.disks → slice_index (spare_of seat.old.base.me.0.notes) d ≢ 0 → (drain seat.old.base.me.0.notes d).phase ≡ IsLive }
-        requires words { (t : M.Target) → IsSteady M.means (target M.means seat.old.base.me.0.known) t → length (spare_of seat.old.base.me.0.notes) ≡ self.now.table.shared.key.rows → M.means.words (M.means.next t call) ≡ spare_of seat.old.base.me.0.notes }
-        ensures own { (seat.new.base.table_id ≡ seat.old.base.table_id) × (seat.new.base.me.1 ≡ seat.old.base.me.1) }
-        ensures published { Published M.means call seat.old.base.me.0 seat.new.base.me.0 result.0 result.1 }
+        requires live { (d : ℕ) → d < self.now.table.shared.key.disks
+            → slice_index (spare_of seat.old.base.me.0.notes) d ≢ 0
+            → (drain seat.old.base.me.0.notes d).phase ≡ IsLive }
+        requires words { (t : M.Target) → IsSteady M.means
+            (target M.means seat.old.base.me.0.known) t
+            → length (spare_of seat.old.base.me.0.notes) ≡ self.now.table.shared.key.rows
+            → M.means.words (M.means.next t call) ≡ spare_of seat.old.base.me.0.notes }
+        ensures own { (seat.new.base.table_id ≡ seat.old.base.table_id)
+            × (seat.new.base.me.1 ≡ seat.old.base.me.1) }
+        ensures published { Published M.means call seat.old.base.me.0 seat.new.base.me.0 result.0
+            result.1 }
         ensures ticks { steps.new ≡ record steps.old { clock = steps.old.clock + 1 } }
     {
         steps.tick_clock();

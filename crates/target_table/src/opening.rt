@@ -32,7 +32,8 @@ fn zeros(alloc: Global, n: usize) -> Result<Vec<u64>, AllocError>
 }
 
 fn lay_biases(mut words: Vec<u64>, about: &Plan) -> Vec<u64>
-    requires few { (length about.now.quotas ≤ 32) × (about.now.disks ≤ 64) × (about.now.slots ≤ 512) }
+    requires few { (length about.now.quotas ≤ 32) × (about.now.disks ≤ 64)
+        × (about.now.slots ≤ 512) }
     requires zeros { IsLaid about.now 0 0 0 [] words.items }
     ensures { IsLaid about.now about.now.disks 0 0 [] result.items }
 {
@@ -43,7 +44,8 @@ fn lay_biases(mut words: Vec<u64>, about: &Plan) -> Vec<u64>
 }
 
 fn lay_rows(mut words: Vec<u64>, about: &Plan, rows: &[u64]) -> Vec<u64>
-    requires few { (length about.now.quotas ≤ 32) × (about.now.disks ≤ 64) × (about.now.slots ≤ 512) }
+    requires few { (length about.now.quotas ≤ 32) × (about.now.disks ≤ 64)
+        × (about.now.slots ≤ 512) }
     requires rows { length rows.now ≡ about.now.rows }
     requires biases { IsLaid about.now about.now.disks 0 0 [] words.items }
     ensures { IsLaid about.now about.now.disks about.now.rows about.now.rows rows.now result.items }
@@ -57,9 +59,12 @@ fn lay_rows(mut words: Vec<u64>, about: &Plan, rows: &[u64]) -> Vec<u64>
 }
 
 fn lay_words(alloc: Global, about: &Plan, rows: &[u64]) -> Result<Vec<u64>, AllocError>
-    requires few { (length about.now.quotas ≤ 32) × (about.now.disks ≤ 64) × (about.now.slots ≤ 512) }
+    requires few { (length about.now.quotas ≤ 32) × (about.now.disks ≤ 64)
+        × (about.now.slots ≤ 512) }
     requires rows { length rows.now ≡ about.now.rows }
-    ensures { IfOk result (λ v. Words about.now (opened_core about.now.quotas about.now.disks about.now.slots rows.now) v.items) }
+    ensures { IfOk result
+        (λ v. Words about.now
+        (opened_core about.now.quotas about.now.disks about.now.slots rows.now) v.items) }
 {
     let words = zeros(alloc, 7688 + 16 * ((rows.len() + 7) / 8))?;
     let words = lay_biases(words, about);
@@ -87,9 +92,12 @@ fn deal_all<S: Drop, M: Means<S>>(
     requires few { (0 < length quotas.now) × (length quotas.now ≤ 32) }
     requires start { editor.old.base.me ≡ (first M.means table.now.table.shared.key, []) }
     ensures own { editor.new.base.table_id ≡ editor.old.base.table_id }
-    ensures editor { OnOk result (editor.new.base.me ≡ (opened_editor M.means table.now.table.shared.key, [])) }
+    ensures editor { OnOk result (editor.new.base.me
+        ≡ (opened_editor M.means table.now.table.shared.key, [])) }
     ensures count { IfOk result (λ r. length r.items + 1 ≡ length quotas.now) }
-    ensures seats { IfOk result (λ r. (j : ℕ) (s : _) → get_elem? r.items j ≡ some s → (s.base.table_id ≡ table.now.table.shared.table_id) × (s.base.me ≡ (opened_seat table.now.table.shared.key (j + 1), []))) }
+    ensures seats { IfOk result (λ r. (j : ℕ) (s : _) → get_elem? r.items j ≡ some s
+        → (s.base.table_id ≡ table.now.table.shared.table_id)
+        × (s.base.me ≡ (opened_seat table.now.table.shared.key (j + 1), []))) }
 {
     let mut others = Vec::new(alloc);
     let mut number: u32 = 1;
@@ -111,14 +119,25 @@ impl<S: Drop, M: Means<S>> TargetTable<S, M> {
     ) -> Result<(TargetTable<S, M>, Seat<S>, Vec<Seat<S>>), AllocError>
         requires seats { (0 < length opening.quotas.items) × (length opening.quotas.items ≤ 32) }
         requires places { sum_of opening.quotas.items < 4294967296 }
-        requires slots { (8 * (length opening.slots.items / 8) ≡ length opening.slots.items) × (length opening.slots.items ≤ 512) }
+        requires slots { (8 * (length opening.slots.items / 8) ≡ length opening.slots.items)
+            × (length opening.slots.items ≤ 512) }
         requires few { length opening.rows.items < 4294967296 }
         requires rows { opening.rows.items ≡ M.means.words M.means.start }
-        requires extents { (n : ℕ) (x : S) → get_elem? opening.slots.items n ≡ some x → M.means.stands x n M.means.start }
-        ensures key { IfOk result (λ r. r.0.table.shared.key ≡ record { quotas = opening.quotas.items; disks = length opening.slots.items / 8; slots = length opening.slots.items; rows = length opening.rows.items }) }
-        ensures editor { IfOk result (λ r. (r.1.base.table_id ≡ r.0.table.shared.table_id) × (r.1.base.me ≡ (opened_editor M.means r.0.table.shared.key, []))) }
+        requires extents { (n : ℕ) (x : S) → get_elem? opening.slots.items n ≡ some x
+            → M.means.stands x n M.means.start }
+        ensures key { IfOk result (λ r. r.0.table.shared.key
+            ≡ record {
+              quotas = opening.quotas.items;
+              disks = length opening.slots.items / 8;
+              slots = length opening.slots.items;
+              rows = length opening.rows.items;
+            }) }
+        ensures editor { IfOk result (λ r. (r.1.base.table_id ≡ r.0.table.shared.table_id)
+            × (r.1.base.me ≡ (opened_editor M.means r.0.table.shared.key, []))) }
         ensures count { IfOk result (λ r. length r.2.items + 1 ≡ length opening.quotas.items) }
-        ensures others { IfOk result (λ r. (j : ℕ) (s : _) → get_elem? r.2.items j ≡ some s → (s.base.table_id ≡ r.0.table.shared.table_id) × (s.base.me ≡ (opened_seat r.0.table.shared.key (j + 1), []))) }
+        ensures others { IfOk result (λ r. (j : ℕ) (s : _) → get_elem? r.2.items j ≡ some s
+            → (s.base.table_id ≡ r.0.table.shared.table_id)
+            × (s.base.me ≡ (opened_seat r.0.table.shared.key (j + 1), []))) }
     {
         let Opening {
             rows,

@@ -25,7 +25,8 @@ pub struct Told {
     pub notes: Editor,
     /// How many seats there are.
     pub seats: u32,
-    /// The number of the next seat that is made, and the quotas of those that aren't made yet, which the first seat has.
+    /// The number of the next seat that is made, and the quotas of those that aren't made yet,
+    /// which the first seat has.
     pub dealt: u32,
     pub undealt: LinkedList<u32>,
     /// The history as far as it has seen it.

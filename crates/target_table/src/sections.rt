@@ -23,7 +23,11 @@ impl<S, M: Means<S>> TargetTable<S, M> {
         requires own { seat.old.base.table_id ≡ self.now.table.shared.table_id }
         requires closed { seat.old.base.me.0.view.section ≡ Out }
         ensures own { seat.new.base.table_id ≡ seat.old.base.table_id }
-        ensures view { seat.new.base.me ≡ (record seat.old.base.me.0 { view = after_enter seat.old.base.me.0.view }, seat.old.base.me.1) }
+        ensures view { seat.new.base.me
+            ≡ (
+              record seat.old.base.me.0 { view = after_enter seat.old.base.me.0.view },
+              seat.old.base.me.1,
+            ) }
         ensures ticks { steps.new ≡ record steps.old { own = steps.old.own + 1 } }
     {
         steps.tick_own();
@@ -39,9 +43,15 @@ impl<S, M: Means<S>> TargetTable<S, M> {
         requires own { seat.old.base.table_id ≡ self.now.table.shared.table_id }
         requires open { is_open seat.old.base.me.0.view.section ≡ true }
         requires loaded { seat.old.base.me.0.view.loaded ≡ NotLoaded }
-        requires finished { (e : Entry) → seat.old.base.me.0.view.section ≡ Placed e → e.call.kind ≡ 1 → is_some (M.means.held (target M.means (take e.place seat.old.base.me.0.known)) e.call) ≡ e.got }
+        requires finished { (e : Entry) → seat.old.base.me.0.view.section ≡ Placed e
+            → e.call.kind ≡ 1 → is_some (M.means.held
+            (target M.means (take e.place seat.old.base.me.0.known)) e.call) ≡ e.got }
         ensures own { seat.new.base.table_id ≡ seat.old.base.table_id }
-        ensures view { seat.new.base.me ≡ (record seat.old.base.me.0 { view = after_leave seat.old.base.me.0.view }, seat.old.base.me.1) }
+        ensures view { seat.new.base.me
+            ≡ (
+              record seat.old.base.me.0 { view = after_leave seat.old.base.me.0.view },
+              seat.old.base.me.1,
+            ) }
         ensures ticks { steps.new ≡ record steps.old { own = steps.old.own + 1 } }
     {
         steps.tick_own();
@@ -60,7 +70,8 @@ impl<S, M: Means<S>> TargetTable<S, M> {
         requires caller { 0 < total (claims_of C.tag.caller) seat.old.base.me.0.claims }
         requires new { C.tag.kind ≡ 1 → IsNewIn C.tag seat.old.base.me.0.claims }
         requires tag { call ≡ C.tag }
-        ensures own { (seat.new.base.table_id ≡ seat.old.base.table_id) × (seat.new.base.me.1 ≡ seat.old.base.me.1) }
+        ensures own { (seat.new.base.table_id ≡ seat.old.base.table_id)
+            × (seat.new.base.me.1 ≡ seat.old.base.me.1) }
         ensures drew { Drew M.means call seat.old.base.me.0 seat.new.base.me.0 result.0 result.1 }
     {
         let _ = call;
@@ -92,7 +103,8 @@ impl<S, M: Means<S>> TargetTable<S, M> {
         requires plain { IsPlain M.means seat.old.number seat.old.base.me.0.known call }
         requires caller { 0 < total (claims_of call.caller) seat.old.base.me.0.claims }
         requires new { call.kind ≡ 1 → IsNewIn call seat.old.base.me.0.claims }
-        ensures own { (seat.new.base.table_id ≡ seat.old.base.table_id) × (seat.new.base.me.1 ≡ seat.old.base.me.1) }
+        ensures own { (seat.new.base.table_id ≡ seat.old.base.table_id)
+            × (seat.new.base.me.1 ≡ seat.old.base.me.1) }
         ensures drew { Drew M.means call seat.old.base.me.0 seat.new.base.me.0 result.0 result.1 }
         ensures ticks { steps.new ≡ record steps.old { clock = steps.old.clock + 1 } }
     {
@@ -108,7 +120,9 @@ impl<S, M: Means<S>> TargetTable<S, M> {
         requires near { word < self.now.table.shared.key.rows }
         ensures own { seat.new.base.table_id ≡ seat.old.base.table_id }
         ensures view { seat.new.base.me ≡ seat.old.base.me }
-        ensures row { (e : Entry) → seat.old.base.me.0.view.section ≡ Placed e → result ≡ slice_index (M.means.words (target M.means (take (e.place + 1) seat.old.base.me.0.known))) word }
+        ensures row { (e : Entry) → seat.old.base.me.0.view.section ≡ Placed e
+            → result ≡ slice_index (M.means.words (target M.means
+            (take (e.place + 1) seat.old.base.me.0.known))) word }
         ensures ticks { steps.new ≡ record steps.old { row = steps.old.row + 1 } }
     {
         steps.tick_row();
