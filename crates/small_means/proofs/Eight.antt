@@ -8,10 +8,13 @@ is_zero zero i x e = absurd (some-ne-none x (sym e))
 is_zero (suc n) zero x e = sym (some-injective 0 x e)
 is_zero (suc n) (suc i) x e = is_zero n i x e
 
-blank : (n : ℕ) → get_or (0 ∷ (0 ∷ [])) n 0 ≡ 0
+abbrev blanks : List ℕ
+blanks = 0 ∷ (0 ∷ [])
+
+blank : (n : ℕ) → get_or blanks n 0 ≡ 0
 blank zero = refl
 blank (suc zero) = refl
 blank (suc (suc n)) = refl
 
-pub all_blank : (n i x : ℕ) → get_elem? (replicate n 0) i ≡ some x → x ≡ get_or (0 ∷ (0 ∷ [])) i 0
+pub all_blank : (n i x : ℕ) → get_elem? (replicate n 0) i ≡ some x → x ≡ get_or blanks i 0
 all_blank n i x e = is_zero n i x e ∙ sym (blank i)

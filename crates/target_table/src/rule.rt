@@ -21,7 +21,7 @@ pub struct Claim {
 pub struct Told {
     /// What it keeps.
     pub view: View,
-    /// What the editor's seat keeps beside.
+    /// What the editor's seat keeps beside: nothing on other seats.
     pub notes: Editor,
     /// How many seats there are.
     pub seats: u32,
@@ -39,7 +39,8 @@ pub struct Told {
     pub found: LinkedList<(u64, u64)>,
 }
 
-/// What is fixed when the table is made.
+/// What is fixed when the table is made: the quota of each seat, the numbers of disks and of slots,
+/// and how many words a side has.
 #[derive(Drop)]
 pub struct Plan {
     pub quotas: Items<u32>,
@@ -48,6 +49,8 @@ pub struct Plan {
     pub rows: u32,
 }
 
+/// The fact that holds of the words, slots and seats of a table between any two steps: they show a
+/// sound core and a legal history of the target `M`.
 pub struct Law<M> {
     meaning: PhantomData<M>,
 }
@@ -60,6 +63,7 @@ impl<S, M: Means<S>> TableRule<Option<S>, Told, Plan> for Law<M> {
     ghost first = { λ key. first M.means key };
 }
 
+/// What `enter_section` tells.
 pub struct Enter;
 
 impl<S> Play<Option<S>, Told> for Enter {
@@ -68,6 +72,7 @@ impl<S> Play<Option<S>, Told> for Enter {
     ghost then = { enters };
 }
 
+/// What `leave_section` tells.
 pub struct Leave;
 
 impl<S> Play<Option<S>, Told> for Leave {
@@ -76,6 +81,7 @@ impl<S> Play<Option<S>, Told> for Leave {
     ghost then = { leaves };
 }
 
+/// What `look_section` tells.
 pub struct Look;
 
 impl<S> Play<Option<S>, Told> for Look {
@@ -84,6 +90,7 @@ impl<S> Play<Option<S>, Told> for Look {
     ghost then = { looks };
 }
 
+/// What `store_row` tells.
 pub struct Store;
 
 impl<S> Play<Option<S>, Told> for Store {
@@ -92,6 +99,7 @@ impl<S> Play<Option<S>, Told> for Store {
     ghost then = { stores };
 }
 
+/// What `load_row` tells.
 pub struct Load<M> {
     meaning: PhantomData<M>,
 }
@@ -102,6 +110,7 @@ impl<S, M: Means<S>> Play<Option<S>, Told> for Load<M> {
     ghost then = { loads M.means };
 }
 
+/// What `draw_place` for the call `C` tells.
 pub struct Draw<M, C> {
     meaning: PhantomData<M>,
     called: PhantomData<C>,
@@ -113,6 +122,7 @@ impl<S, M: Means<S>, C: Called> Play<Option<S>, Told> for Draw<M, C> {
     ghost then = { draws M.means C.tag };
 }
 
+/// What `publish` by the call `C` tells.
 pub struct Publish<M, C> {
     meaning: PhantomData<M>,
     called: PhantomData<C>,
@@ -124,6 +134,7 @@ impl<S, M: Means<S>, C: Called> Play<Option<S>, Told> for Publish<M, C> {
     ghost then = { publishes M.means C.tag };
 }
 
+/// What `learn` tells.
 pub struct Learn<M> {
     meaning: PhantomData<M>,
 }
@@ -154,6 +165,7 @@ impl Taken for Brand {
     ghost take = { Nothing };
 }
 
+/// A part is split off a seat, which takes what `C` says.
 pub struct Cut<C> {
     taken: PhantomData<C>,
 }
@@ -166,6 +178,7 @@ impl<C: Taken> Split<Told> for Cut<C> {
     ghost right = { part_of C.take };
 }
 
+/// A part or a seat is joined into a seat.
 pub struct Gather;
 
 impl Join<Told> for Gather {
@@ -176,6 +189,7 @@ impl Join<Told> for Gather {
     ghost spent = { gone };
 }
 
+/// What `load_mode` tells.
 pub struct LoadMode;
 
 impl<S> Play<Option<S>, Told> for LoadMode {
@@ -184,6 +198,7 @@ impl<S> Play<Option<S>, Told> for LoadMode {
     ghost then = { loads_mode };
 }
 
+/// What a get on the own counter tells.
 pub struct GetOwn;
 
 impl<S> Play<Option<S>, Told> for GetOwn {
@@ -193,6 +208,7 @@ impl<S> Play<Option<S>, Told> for GetOwn {
     ghost then = { adds_own true };
 }
 
+/// What a put on the own counter tells.
 pub struct PutOwn;
 
 impl<S> Play<Option<S>, Told> for PutOwn {
@@ -202,6 +218,7 @@ impl<S> Play<Option<S>, Told> for PutOwn {
     ghost then = { adds_own false };
 }
 
+/// What a get on the shared count tells.
 pub struct GetShared;
 
 impl<S> Play<Option<S>, Told> for GetShared {
@@ -211,6 +228,7 @@ impl<S> Play<Option<S>, Told> for GetShared {
     ghost then = { adds_shared true };
 }
 
+/// What a put on the shared count tells.
 pub struct PutShared;
 
 impl<S> Play<Option<S>, Told> for PutShared {
@@ -220,6 +238,7 @@ impl<S> Play<Option<S>, Told> for PutShared {
     ghost then = { adds_shared false };
 }
 
+/// What `take_turn` tells.
 pub struct TakeTurn<M> {
     meaning: PhantomData<M>,
 }
@@ -230,6 +249,7 @@ impl<S, M: Means<S>> Play<Option<S>, Told> for TakeTurn<M> {
     ghost then = { takes_turn M.means };
 }
 
+/// What `give_turn` tells.
 pub struct GiveTurn;
 
 impl<S> Play<Option<S>, Told> for GiveTurn {
@@ -238,6 +258,7 @@ impl<S> Play<Option<S>, Told> for GiveTurn {
     ghost then = { gives_turn };
 }
 
+/// What `place_execute` for `H` tells.
 pub struct Execute<M, H> {
     meaning: PhantomData<M>,
     held: PhantomData<H>,
@@ -249,6 +270,7 @@ impl<S, M: Means<S>, H: Held> Play<Option<S>, Told> for Execute<M, H> {
     ghost then = { executes M.means H.tag H.hold };
 }
 
+/// What `kill` tells.
 pub struct Kill;
 
 impl<S> Play<Option<S>, Told> for Kill {
@@ -257,6 +279,7 @@ impl<S> Play<Option<S>, Told> for Kill {
     ghost then = { kills };
 }
 
+/// What `look_counter` tells.
 pub struct LookCounter;
 
 impl<S> Play<Option<S>, Told> for LookCounter {
@@ -265,6 +288,7 @@ impl<S> Play<Option<S>, Told> for LookCounter {
     ghost then = { counts };
 }
 
+/// What `fold` tells.
 pub struct Fold;
 
 impl<S> Play<Option<S>, Told> for Fold {
@@ -273,6 +297,7 @@ impl<S> Play<Option<S>, Told> for Fold {
     ghost then = { folds };
 }
 
+/// What `look_zero` tells.
 pub struct LookZero;
 
 impl<S> Play<Option<S>, Told> for LookZero {
@@ -281,6 +306,7 @@ impl<S> Play<Option<S>, Told> for LookZero {
     ghost then = { looks_zero };
 }
 
+/// What `live_shared` tells.
 pub struct LiveShared;
 
 impl<S> Play<Option<S>, Told> for LiveShared {
@@ -289,6 +315,7 @@ impl<S> Play<Option<S>, Told> for LiveShared {
     ghost then = { arms };
 }
 
+/// What `live_mode` tells.
 pub struct LiveMode;
 
 impl<S> Play<Option<S>, Told> for LiveMode {
@@ -297,6 +324,7 @@ impl<S> Play<Option<S>, Told> for LiveMode {
     ghost then = { revives };
 }
 
+/// What `place_done` for `C` tells.
 pub struct End<M, C> {
     meaning: PhantomData<M>,
     drained: PhantomData<C>,
