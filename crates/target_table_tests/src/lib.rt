@@ -5,4 +5,8 @@
 #[cfg(test)]
 mod ground;
 #[cfg(test)]
+mod section_tests;
+#[cfg(test)]
+mod thread_tests;
+#[cfg(test)]
 mod turn_tests;
