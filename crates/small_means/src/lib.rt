@@ -5,13 +5,13 @@ ghost use Rattle.std.specs.Prelude.{◌≡◌, ◌+◌, ◌<◌, ◌≤◌, ◌�
 ghost use mathlib.Core.Option.{some};
 ghost use lib.ListN.{get_elem?};
 ghost use Rattle.ref_state.specs.Soundness.{sum_of};
-ghost use Rattle.target_table.specs.Shown.{opened_editor, opened_seat};
+ghost use Rattle.table_rule.specs.Shown.{opened_editor, opened_seat};
 ghost use Rattle.small_means.specs.SmallMeans.{small_means, small_plan};
 
 use lists::items::Items;
 use small_target::Small;
 use std::alloc::{AllocError, Global};
-use target_table::meaning::Means;
+use table_rule::meaning::Means;
 use target_table::opening::Opening;
 use target_table::table::{Seat, TargetTable};
 

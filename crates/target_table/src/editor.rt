@@ -4,18 +4,18 @@ ghost use Rattle.std.specs.Prelude.{◌≡◌, ◌≢◌, ◌+◌, ◌<◌, ◌�
 ghost use Rattle.ref_state.specs.declared.state.Phase.TheVariants.{Live as IsLive};
 ghost use Rattle.ref_state.specs.State.{total, AllPassed, drain};
 ghost use Rattle.ref_state.specs.Steps.{looked_at};
-ghost use Rattle.target_table.specs.Meant.{target, IsSteady};
-ghost use Rattle.target_table.specs.Shown.{claims_of};
-ghost use Rattle.target_table.specs.Words.{at, SectionOf};
-ghost use Rattle.target_table.specs.Plays.{Published, spare_of};
+ghost use Rattle.table_rule.specs.Meant.{target, IsSteady};
+ghost use Rattle.table_rule.specs.Shown.{claims_of};
+ghost use Rattle.table_rule.specs.Words.{at, SectionOf};
+ghost use Rattle.table_rule.specs.Plays.{Published, spare_of};
 
-use crate::meaning::{Called, Means};
-use crate::rule::{Look, Publish, Store};
 use crate::table::{Seat, TargetTable};
-use crate::ticks::Steps;
 use ref_state::kinds::Tag;
 use std::marker::Brand;
 use std::sync::ledger::Ledger;
+use table_rule::meaning::{Called, Means};
+use table_rule::rule::{Look, Publish, Store};
+use table_rule::ticks::Steps;
 
 impl<S, M: Means<S>> TargetTable<S, M> {
     /// The editor stores the word of the spare side at `word`, counted from 0. Every section that

@@ -3,15 +3,15 @@ ghost use Rattle.std.specs.Prelude.{◌≡◌, ◌≢◌, ◌+◌, ◌*◌, ◌/
 ghost use mathlib.Core.Option.{some};
 ghost use lib.ListN.{get_elem?};
 ghost use Rattle.ref_state.specs.Soundness.{opened_core, sum_of};
-ghost use Rattle.target_table.specs.Shown.{first, head_or, opened_editor, opened_seat};
-ghost use Rattle.target_table.specs.Words.{Words, IsLaid, width};
+ghost use Rattle.table_rule.specs.Shown.{first, head_or, opened_editor, opened_seat};
+ghost use Rattle.table_rule.specs.Words.{Words, IsLaid, width};
 
-use crate::meaning::Means;
-use crate::rule::Plan;
 use crate::table::{Seat, TargetTable};
 use lists::items::Items;
 use ref_state::limits::BIAS;
 use std::alloc::{AllocError, Global};
+use table_rule::meaning::Means;
+use table_rule::rule::Plan;
 
 /// What a table is opened with.
 #[derive(Drop)]

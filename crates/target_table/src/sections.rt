@@ -5,17 +5,17 @@ ghost use Rattle.ref_state.specs.declared.state.Section.TheVariants.{Out, In, Pl
 ghost use Rattle.ref_state.specs.declared.state.LoadedMode.TheVariants.{NotLoaded};
 ghost use Rattle.ref_state.specs.State.{total, is_open};
 ghost use Rattle.ref_state.specs.Steps.{after_enter, after_leave};
-ghost use Rattle.target_table.specs.Meant.{target, MayDraw, IsPlain};
-ghost use Rattle.target_table.specs.Shown.{claims_of, IsNewIn};
-ghost use Rattle.target_table.specs.Plays.{Drew};
+ghost use Rattle.table_rule.specs.Meant.{target, MayDraw, IsPlain};
+ghost use Rattle.table_rule.specs.Shown.{claims_of, IsNewIn};
+ghost use Rattle.table_rule.specs.Plays.{Drew};
 
-use crate::meaning::{Called, Means};
-use crate::rule::{Draw, Enter, Leave, Load};
 use crate::table::{Seat, TargetTable};
-use crate::ticks::Steps;
 use ref_state::kinds::Tag;
 use std::marker::Brand;
 use std::sync::ledger::Ledger;
+use table_rule::meaning::{Called, Means};
+use table_rule::rule::{Draw, Enter, Leave, Load};
+use table_rule::ticks::Steps;
 
 impl<S, M: Means<S>> TargetTable<S, M> {
     /// Stores the own section word, made odd: `rcu_read_lock`.

@@ -1,7 +1,7 @@
 //! A small table with three seats.
 ghost use Rattle.std.specs.Prelude.{◌≡◌, ◌≢◌, ◌<◌, ◌≤◌, ◌∷◌, [], IfOk};
 ghost use Rattle.small_means.specs.SmallMeans.{small_means, small_plan};
-ghost use Rattle.target_table.specs.Shown.{opened_editor, opened_seat};
+ghost use Rattle.table_rule.specs.Shown.{opened_editor, opened_seat};
 
 use small_means::{SmallMeaning, open_small};
 use std::alloc::{AllocError, Global};

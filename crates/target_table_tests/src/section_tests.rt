@@ -7,8 +7,8 @@ use ref_state::kinds::{BARE, Tag};
 use std::alloc::{AllocError, Global};
 use std::marker::Brand;
 use std::sync::ledger::{Blank, Ledger};
+use table_rule::ticks::Steps;
 use target_table::table::Seat;
-use target_table::ticks::Steps;
 
 /// A bare call in a section of its own: its place and serial, and the word of row 0 there.
 pub fn bare_section<L: Ledger>(

@@ -8,8 +8,8 @@ use std::alloc::{AllocError, Global};
 use std::marker::Brand;
 use std::sync::ledger::{Blank, Ledger};
 use std::thread::{Threads, join};
+use table_rule::ticks::Steps;
 use target_table::table::Seat;
-use target_table::ticks::Steps;
 
 // How many bare calls each thread makes.
 const COUNT: u32 = 200;

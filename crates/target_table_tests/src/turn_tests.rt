@@ -5,7 +5,7 @@ use crate::ground::three;
 use std::alloc::{AllocError, Global};
 use std::marker::Brand;
 use std::sync::ledger::{Blank, Ledger};
-use target_table::ticks::Steps;
+use table_rule::ticks::Steps;
 
 // Seat 1 tries slot 0, and seat 2 tries slots 1 and 0.
 fn three_tries<L: Ledger>(alloc: Global, blank: Blank) -> Result<(bool, bool, bool), AllocError>

@@ -2,10 +2,10 @@ use Rattle.std.proofs.Common.{arith, ⊎_elim, ◌++◌, ◌∷◌, drop, length
 use mathlib.Core.Option.{some, some-ne-none}
 use lib.ListN.{get_elem?}
 use Rattle.atomic_table.specs.Table.{Me}
-use Rattle.target_table.specs.declared.rule.Told.{Told}
-use Rattle.target_table.proofs.Laying.{drop_head, drop_next}
+use Rattle.table_rule.specs.declared.rule.Told.{Told}
+use Rattle.table_rule.proofs.Laying.{drop_head, drop_next}
 use Rattle.ref_state.proofs.Lists.{at_end}
-use Rattle.target_table.specs.Shown.{first, dealing, dealt_seat, opened_seat}
+use Rattle.table_rule.specs.Shown.{first, dealing, dealt_seat, opened_seat}
 use Rattle.target_table.proofs.opening.deal_all.Goals as goal
 
 pub loop-number-init : goal.loop-number-init

@@ -1,7 +1,7 @@
 use Rattle.std.proofs.Common.{◌≡◌, ◌+◌, ◌-◌, ◌<◌, ◌≤◌, ℕ, [], length, drop}
 use mathlib.Core.Option.{some}
 use lib.ListN.{get_elem?}
-use Rattle.target_table.specs.Shown.{first, opened_seat}
+use Rattle.table_rule.specs.Shown.{first, opened_seat}
 use Rattle.target_table.proofs.opening.deal_all.Given as goal
 
 abbrev pub invariant-loop-number : goal.invariant-loop-number

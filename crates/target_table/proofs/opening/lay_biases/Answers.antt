@@ -1,4 +1,4 @@
-use Rattle.target_table.proofs.Laying.{lay_bias}
+use Rattle.table_rule.proofs.Laying.{lay_bias}
 use Rattle.target_table.proofs.opening.lay_biases.Goals as goal
 
 pub loop-disk-init : goal.loop-disk-init

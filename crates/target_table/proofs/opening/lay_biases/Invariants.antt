@@ -1,5 +1,5 @@
 use Rattle.std.proofs.Common.{[]}
-use Rattle.target_table.specs.Words.{IsLaid}
+use Rattle.table_rule.specs.Words.{IsLaid}
 use Rattle.target_table.proofs.opening.lay_biases.Given as goal
 
 abbrev pub invariant-loop-disk : goal.invariant-loop-disk

@@ -1,5 +1,5 @@
 use Rattle.std.proofs.Common.{arith, ◌<◌}
-use Rattle.target_table.proofs.Laying.{no_rows, lay_row}
+use Rattle.table_rule.proofs.Laying.{no_rows, lay_row}
 use Rattle.target_table.proofs.opening.lay_rows.Goals as goal
 
 pub loop-word-init : goal.loop-word-init

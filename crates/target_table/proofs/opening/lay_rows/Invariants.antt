@@ -1,4 +1,4 @@
-use Rattle.target_table.specs.Words.{IsLaid}
+use Rattle.table_rule.specs.Words.{IsLaid}
 use Rattle.target_table.proofs.opening.lay_rows.Given as goal
 
 abbrev pub invariant-loop-word : goal.invariant-loop-word

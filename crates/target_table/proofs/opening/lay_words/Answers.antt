@@ -1,4 +1,4 @@
-use Rattle.target_table.proofs.Laying.{all_laid}
+use Rattle.table_rule.proofs.Laying.{all_laid}
 use Rattle.target_table.proofs.opening.lay_words.Goals as goal
 
 pub returns : goal.returns

@@ -2,10 +2,10 @@ use Rattle.std.proofs.Common.{arith, ◌≡◌, ◌<◌, ℕ, Option, List, map,
 use Rattle.atomic_table.specs.Table.{Me}
 use Rattle.ref_state.specs.declared.kinds.Tag.{Tag}
 use Rattle.ref_state.specs.State.{total}
-use Rattle.target_table.specs.declared.rule.Told.{Told}
-use Rattle.target_table.specs.declared.rule.Claim.{Claim}
-use Rattle.target_table.specs.Shown.{claims_of, extended}
-use Rattle.target_table.proofs.Claiming.{extended_total}
+use Rattle.table_rule.specs.declared.rule.Told.{Told}
+use Rattle.table_rule.specs.declared.rule.Claim.{Claim}
+use Rattle.table_rule.specs.Shown.{claims_of, extended}
+use Rattle.table_rule.proofs.Claiming.{extended_total}
 use Rattle.target_table_tests.proofs.section_tests.bare_section.Goals as goal
 
 pub returns-clause-rests : goal.returns-clause-rests

@@ -56,7 +56,7 @@ pub struct Law<M> {
 }
 
 impl<S, M: Means<S>> TableRule<Option<S>, Told, Plan> for Law<M> {
-    ghost use Rattle.target_table.specs.Shown.{Shows, first};
+    ghost use Rattle.table_rule.specs.Shown.{Shows, first};
 
     ghost holds = { λ key. Shows M.means key };
 
@@ -67,7 +67,7 @@ impl<S, M: Means<S>> TableRule<Option<S>, Told, Plan> for Law<M> {
 pub struct Enter;
 
 impl<S> Play<Option<S>, Told> for Enter {
-    ghost use Rattle.target_table.specs.Plays.{enters};
+    ghost use Rattle.table_rule.specs.Plays.{enters};
 
     ghost then = { enters };
 }
@@ -76,7 +76,7 @@ impl<S> Play<Option<S>, Told> for Enter {
 pub struct Leave;
 
 impl<S> Play<Option<S>, Told> for Leave {
-    ghost use Rattle.target_table.specs.Plays.{leaves};
+    ghost use Rattle.table_rule.specs.Plays.{leaves};
 
     ghost then = { leaves };
 }
@@ -85,7 +85,7 @@ impl<S> Play<Option<S>, Told> for Leave {
 pub struct Look;
 
 impl<S> Play<Option<S>, Told> for Look {
-    ghost use Rattle.target_table.specs.Plays.{looks};
+    ghost use Rattle.table_rule.specs.Plays.{looks};
 
     ghost then = { looks };
 }
@@ -94,7 +94,7 @@ impl<S> Play<Option<S>, Told> for Look {
 pub struct Store;
 
 impl<S> Play<Option<S>, Told> for Store {
-    ghost use Rattle.target_table.specs.Plays.{stores};
+    ghost use Rattle.table_rule.specs.Plays.{stores};
 
     ghost then = { stores };
 }
@@ -105,7 +105,7 @@ pub struct Load<M> {
 }
 
 impl<S, M: Means<S>> Play<Option<S>, Told> for Load<M> {
-    ghost use Rattle.target_table.specs.Plays.{loads};
+    ghost use Rattle.table_rule.specs.Plays.{loads};
 
     ghost then = { loads M.means };
 }
@@ -117,7 +117,7 @@ pub struct Draw<M, C> {
 }
 
 impl<S, M: Means<S>, C: Called> Play<Option<S>, Told> for Draw<M, C> {
-    ghost use Rattle.target_table.specs.Plays.{draws};
+    ghost use Rattle.table_rule.specs.Plays.{draws};
 
     ghost then = { draws M.means C.tag };
 }
@@ -129,7 +129,7 @@ pub struct Publish<M, C> {
 }
 
 impl<S, M: Means<S>, C: Called> Play<Option<S>, Told> for Publish<M, C> {
-    ghost use Rattle.target_table.specs.Plays.{publishes};
+    ghost use Rattle.table_rule.specs.Plays.{publishes};
 
     ghost then = { publishes M.means C.tag };
 }
@@ -140,7 +140,7 @@ pub struct Learn<M> {
 }
 
 impl<S, M: Means<S>> Play<Option<S>, Told> for Learn<M> {
-    ghost use Rattle.target_table.specs.Plays.{learns};
+    ghost use Rattle.table_rule.specs.Plays.{learns};
 
     ghost then = { learns M.means };
 }
@@ -149,7 +149,7 @@ impl<S, M: Means<S>> Play<Option<S>, Told> for Learn<M> {
 pub struct Deal;
 
 impl Split<Told> for Deal {
-    ghost use Rattle.target_table.specs.Shown.{dealing, dealt_seat};
+    ghost use Rattle.table_rule.specs.Shown.{dealing, dealt_seat};
 
     ghost left = { dealing };
 
@@ -171,7 +171,7 @@ pub struct Cut<C> {
 }
 
 impl<C: Taken> Split<Told> for Cut<C> {
-    ghost use Rattle.target_table.specs.Shown.{cutting, part_of};
+    ghost use Rattle.table_rule.specs.Shown.{cutting, part_of};
 
     ghost left = { cutting C.take };
 
@@ -182,7 +182,7 @@ impl<C: Taken> Split<Told> for Cut<C> {
 pub struct Gather;
 
 impl Join<Told> for Gather {
-    ghost use Rattle.target_table.specs.Shown.{joining, gone};
+    ghost use Rattle.table_rule.specs.Shown.{joining, gone};
 
     ghost both = { joining };
 
@@ -193,7 +193,7 @@ impl Join<Told> for Gather {
 pub struct LoadMode;
 
 impl<S> Play<Option<S>, Told> for LoadMode {
-    ghost use Rattle.target_table.specs.Plays.{loads_mode};
+    ghost use Rattle.table_rule.specs.Plays.{loads_mode};
 
     ghost then = { loads_mode };
 }
@@ -202,7 +202,7 @@ impl<S> Play<Option<S>, Told> for LoadMode {
 pub struct GetOwn;
 
 impl<S> Play<Option<S>, Told> for GetOwn {
-    ghost use Rattle.target_table.specs.Plays.{adds_own};
+    ghost use Rattle.table_rule.specs.Plays.{adds_own};
     ghost use Rattle.std.specs.Prelude.{true};
 
     ghost then = { adds_own true };
@@ -212,7 +212,7 @@ impl<S> Play<Option<S>, Told> for GetOwn {
 pub struct PutOwn;
 
 impl<S> Play<Option<S>, Told> for PutOwn {
-    ghost use Rattle.target_table.specs.Plays.{adds_own};
+    ghost use Rattle.table_rule.specs.Plays.{adds_own};
     ghost use Rattle.std.specs.Prelude.{false};
 
     ghost then = { adds_own false };
@@ -222,7 +222,7 @@ impl<S> Play<Option<S>, Told> for PutOwn {
 pub struct GetShared;
 
 impl<S> Play<Option<S>, Told> for GetShared {
-    ghost use Rattle.target_table.specs.Plays.{adds_shared};
+    ghost use Rattle.table_rule.specs.Plays.{adds_shared};
     ghost use Rattle.std.specs.Prelude.{true};
 
     ghost then = { adds_shared true };
@@ -232,7 +232,7 @@ impl<S> Play<Option<S>, Told> for GetShared {
 pub struct PutShared;
 
 impl<S> Play<Option<S>, Told> for PutShared {
-    ghost use Rattle.target_table.specs.Plays.{adds_shared};
+    ghost use Rattle.table_rule.specs.Plays.{adds_shared};
     ghost use Rattle.std.specs.Prelude.{false};
 
     ghost then = { adds_shared false };
@@ -244,7 +244,7 @@ pub struct TakeTurn<M> {
 }
 
 impl<S, M: Means<S>> Play<Option<S>, Told> for TakeTurn<M> {
-    ghost use Rattle.target_table.specs.Plays.{takes_turn};
+    ghost use Rattle.table_rule.specs.Plays.{takes_turn};
 
     ghost then = { takes_turn M.means };
 }
@@ -253,7 +253,7 @@ impl<S, M: Means<S>> Play<Option<S>, Told> for TakeTurn<M> {
 pub struct GiveTurn;
 
 impl<S> Play<Option<S>, Told> for GiveTurn {
-    ghost use Rattle.target_table.specs.Plays.{gives_turn};
+    ghost use Rattle.table_rule.specs.Plays.{gives_turn};
 
     ghost then = { gives_turn };
 }
@@ -265,7 +265,7 @@ pub struct Execute<M, H> {
 }
 
 impl<S, M: Means<S>, H: Held> Play<Option<S>, Told> for Execute<M, H> {
-    ghost use Rattle.target_table.specs.Plays.{executes};
+    ghost use Rattle.table_rule.specs.Plays.{executes};
 
     ghost then = { executes M.means H.tag H.hold };
 }
@@ -274,7 +274,7 @@ impl<S, M: Means<S>, H: Held> Play<Option<S>, Told> for Execute<M, H> {
 pub struct Kill;
 
 impl<S> Play<Option<S>, Told> for Kill {
-    ghost use Rattle.target_table.specs.Plays.{kills};
+    ghost use Rattle.table_rule.specs.Plays.{kills};
 
     ghost then = { kills };
 }
@@ -283,7 +283,7 @@ impl<S> Play<Option<S>, Told> for Kill {
 pub struct LookCounter;
 
 impl<S> Play<Option<S>, Told> for LookCounter {
-    ghost use Rattle.target_table.specs.Plays.{counts};
+    ghost use Rattle.table_rule.specs.Plays.{counts};
 
     ghost then = { counts };
 }
@@ -292,7 +292,7 @@ impl<S> Play<Option<S>, Told> for LookCounter {
 pub struct Fold;
 
 impl<S> Play<Option<S>, Told> for Fold {
-    ghost use Rattle.target_table.specs.Plays.{folds};
+    ghost use Rattle.table_rule.specs.Plays.{folds};
 
     ghost then = { folds };
 }
@@ -301,7 +301,7 @@ impl<S> Play<Option<S>, Told> for Fold {
 pub struct LookZero;
 
 impl<S> Play<Option<S>, Told> for LookZero {
-    ghost use Rattle.target_table.specs.Plays.{looks_zero};
+    ghost use Rattle.table_rule.specs.Plays.{looks_zero};
 
     ghost then = { looks_zero };
 }
@@ -310,7 +310,7 @@ impl<S> Play<Option<S>, Told> for LookZero {
 pub struct LiveShared;
 
 impl<S> Play<Option<S>, Told> for LiveShared {
-    ghost use Rattle.target_table.specs.Plays.{arms};
+    ghost use Rattle.table_rule.specs.Plays.{arms};
 
     ghost then = { arms };
 }
@@ -319,7 +319,7 @@ impl<S> Play<Option<S>, Told> for LiveShared {
 pub struct LiveMode;
 
 impl<S> Play<Option<S>, Told> for LiveMode {
-    ghost use Rattle.target_table.specs.Plays.{revives};
+    ghost use Rattle.table_rule.specs.Plays.{revives};
 
     ghost then = { revives };
 }
@@ -331,7 +331,7 @@ pub struct End<M, C> {
 }
 
 impl<S, M: Means<S>, C: Drained> Play<Option<S>, Told> for End<M, C> {
-    ghost use Rattle.target_table.specs.Plays.{ends};
+    ghost use Rattle.table_rule.specs.Plays.{ends};
 
     ghost then = { ends M.means C.tag C.disk };
 }

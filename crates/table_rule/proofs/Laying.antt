@@ -9,10 +9,10 @@ use Rattle.ref_state.specs.declared.state.View.{View}
 use Rattle.ref_state.specs.declared.state.Disk.{Disk}
 use Rattle.ref_state.specs.State.{view, no_view, no_disk, no_count, word_of, bias}
 use Rattle.ref_state.specs.Soundness.{seats_from, opened_core, live_disk}
-use Rattle.target_table.specs.declared.rule.Plan.{Plan}
-use Rattle.target_table.specs.Words.{Where, Clock, SectionOf, ModeOf, SharedOf, OwnOf, TurnOf, RowOf, at, width, Within, value, Words, laid, IsLaid}
-use Rattle.target_table.specs.Shown.{head_or}
-use Rattle.target_table.proofs.Addresses.{Few, one_word, inside}
+use Rattle.table_rule.specs.declared.rule.Plan.{Plan}
+use Rattle.table_rule.specs.Words.{Where, Clock, SectionOf, ModeOf, SharedOf, OwnOf, TurnOf, RowOf, at, width, Within, value, Words, laid, IsLaid}
+use Rattle.table_rule.specs.Shown.{head_or}
+use Rattle.table_rule.proofs.Addresses.{Few, one_word, inside}
 
 everywhere : {A : Type 0} (n i : ℕ) (a : A) → get_or (replicate n a) i a ≡ a
 everywhere zero i a = refl

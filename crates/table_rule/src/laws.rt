@@ -1,5 +1,5 @@
 //! What holds of the layout of the words. Each law is the contract of a function that does nothing.
-ghost use Rattle.target_table.specs.Words.{WordsAreApart, LinesAreApart};
+ghost use Rattle.table_rule.specs.Words.{WordsAreApart, LinesAreApart};
 
 /// Each part of the core has a word of its own.
 pub fn words_are_apart()
