@@ -1,0 +1,85 @@
+-- Maps that are made again, one entry after another in the order of their keys; the hosts of a tree.
+use Rattle.std.proofs.Common.{◌≡◌, ℕ, zero, suc, ◌+◌, ◌<◌, ◌≤◌, Bool, true, false, ◌&&◌, ltb, T, List, [], ◌∷◌, ◌++◌, map, length, Option, Some, None, Ordering, Less, Equal, Greater, refl, sym, ap, ◌∙◌, subst, arith}
+use Rattle.std.proofs.lemmas.List.{append-nil, length-append}
+use Rattle.std.proofs.Common.{append_assoc}
+use Rattle.std.proofs.lemmas.Bool.{lt-ltb}
+use Rattle.std.specs.Cmp.{IsTotalOrder}
+use Rattle.std.specs.Cmp.Lexicographic.{nat_list_cmp_total}
+use Rattle.std.specs.Option.{option_and_then, is_some}
+use Rattle.std.specs.Ordering.{is_lt, is_eq, ordering_reverse, eq_by_cmp}
+use Rattle.std.specs.FinMap as maps
+use Rattle.std.specs.FinMap.{FinMap, find, put, is_sorted}
+use Rattle.std.specs.FinMap.Entries.{below_all}
+use Rattle.configfs_rows.specs.Nqns.{name_order}
+use Rattle.configfs_tree.specs.Table.{mkdir_host}
+use Rattle.configfs_tree.specs.Outcome.{first_of, with_settings}
+use Rattle.configfs_tree.specs.declared.edits.Folder.TheVariants as folder
+use Rattle.configfs_tree.specs.declared.configuration.Configuration.{Configuration}
+use Rattle.link_rules.specs.declared.edits.Edit.{Edit}
+use Rattle.nvmetcli_json.specs.Edits.{made}
+use Rattle.nvmetcli_json.specs.Laws.{edited, all_edited}
+use Rattle.nvmetcli_json.specs.Written.{flat, host_written}
+
+both : (a b : Bool) → T a → T b → T (a && b)
+both true b p q = q
+both false b p q = p
+
+first : (a b : Bool) → T (a && b) → T a
+first true b p = tt
+first false b p = p
+
+second : (a b : Bool) → T (a && b) → T b
+second true b p = p
+second false b p = absurd p
+
+less : (o : Ordering) → T (is_lt o) → o ≡ Less
+less Less p = refl
+less Equal p = absurd p
+less Greater p = absurd p
+
+module _ {K X : Type 0} {R : K → K → Ordering} (o : IsTotalOrder R) where
+  below_middle : (x : K) (done : List (K × X)) (e : K × X) (more : List (K × X)) → T (below_all R x (done ++ e ∷ more)) → R x e.0 ≡ Less
+  below_middle x [] e more h = less (R x e.0) (first (is_lt (R x e.0)) (below_all R x more) h)
+  below_middle x (f ∷ done) e more h = below_middle x done e more (second (is_lt (R x f.0)) (below_all R x (done ++ e ∷ more)) h)
+
+  tail_sorted : (f : K × X) (es : List (K × X)) → T (is_sorted R (f ∷ es)) → T (is_sorted R es)
+  tail_sorted f es h = second (below_all R f.0 es) (is_sorted R es) h
+
+  above : (f : K × X) (done : List (K × X)) (e : K × X) (more : List (K × X)) → T (is_sorted R (f ∷ (done ++ e ∷ more))) → R e.0 f.0 ≡ Greater
+  above f done e more h = o.antisymm e.0 f.0 ∙ ap ordering_reverse (below_middle f.0 done e more (first (below_all R f.0 (done ++ e ∷ more)) (is_sorted R (done ++ e ∷ more)) h))
+
+  -- an entry whose key is above those before it goes last, and nothing stands at its key
+  pub put_last : (done : List (K × X)) (e : K × X) (more : List (K × X)) → T (is_sorted R (done ++ e ∷ more)) → put R e.0 e.1 done ≡ done ++ e ∷ []
+  put_last [] e more h = refl
+  put_last (f ∷ done) e more h = rw (above f done e more h) (ap (λ es. f ∷ es) (put_last done e more (tail_sorted f (done ++ e ∷ more) h)))
+
+  pub find_none : (done : List (K × X)) (e : K × X) (more : List (K × X)) → T (is_sorted R (done ++ e ∷ more)) → find R e.0 done ≡ None
+  find_none [] e more h = refl
+  find_none (f ∷ done) e more h = rw (above f done e more h) (find_none done e more (tail_sorted f (done ++ e ∷ more) h))
+
+abbrev Names : Type 0
+Names = FinMap name_order (Unit {0})
+
+abbrev with_hosts : Configuration → Names → Configuration
+with_hosts t hosts = with_settings t (record t.settings { hosts = hosts })
+
+host_made : (t : Configuration) (host : List ℕ) → is_some (maps.get t.settings.hosts host) ≡ false → ltb (maps.len t.settings.hosts) 64 ≡ true → edited t (made (folder.Host host)) ≡ Some (with_hosts t (maps.insert t.settings.hosts host tt))
+unfolding mkdir_host first_of
+host_made t host new few = rw (new, few) refl
+
+-- hosts that are made in their order are the hosts that were saved
+pub hosts_made : (xs done : List (List ℕ × Unit {0})) (t : Configuration) (rest : List Edit) (all : Names) → maps.entries t.settings.hosts ≡ done → maps.entries all ≡ done ++ xs → length done + length xs ≤ 64
+    → all_edited t (flat host_written (map (λ e. e.0) xs) ++ rest) ≡ all_edited (with_hosts t all) rest
+unfolding flat all_edited
+hosts_made [] done t rest all now is few =
+    let same : t.settings.hosts ≡ all = maps.same_entries_map _ _ (now ∙ sym (append-nil done) ∙ sym is) in
+    ap (λ (m : Names). all_edited (with_hosts t m) rest) same
+hosts_made (x ∷ xs) done t rest all now is few =
+    let sorted : T (is_sorted name_order (done ++ x ∷ xs)) = subst (λ es. T (is_sorted name_order es)) is (maps.entries_sorted all) in
+    let none : is_some (maps.get t.settings.hosts x.0) ≡ false = ap is_some (maps.get-entries t.settings.hosts x.0 ∙ ap (find name_order x.0) now ∙ find_none nat_list_cmp_total done x xs sorted) in
+    let count : maps.len t.settings.hosts ≡ length done = maps.len-entries t.settings.hosts ∙ ap length now in
+    let room : ltb (maps.len t.settings.hosts) 64 ≡ true = lt-ltb _ _ (omega (arith, count, few)) in
+    let next : maps.entries (maps.insert t.settings.hosts x.0 tt) ≡ done ++ x ∷ [] = maps.entries-insert nat_list_cmp_total t.settings.hosts x.0 tt ∙ ap (put name_order x.0 tt) now ∙ put_last nat_list_cmp_total done x xs sorted in
+    let more : length (done ++ x ∷ []) ≡ length done + 1 = length-append done (x ∷ []) in
+    ap (option_and_then (λ u. all_edited u (flat host_written (map (λ e. e.0) xs) ++ rest))) (host_made t x.0 none room)
+    ∙ hosts_made xs (done ++ x ∷ []) (with_hosts t (maps.insert t.settings.hosts x.0 tt)) rest all next (is ∙ sym (append_assoc done (x ∷ []) xs)) (omega (arith, few, more))
