@@ -13,7 +13,7 @@ use Rattle.sqe_cqe.specs.declared.rows.Ana.{Ana}
 use Rattle.configfs_rows.specs.declared.ports.PortRow.{PortRow}
 use Rattle.configfs_tree.specs.declared.configuration.Configuration.{Configuration}
 use Rattle.nvmetcli_json.specs.Counting.{others_among, total_among, one, host_count, namespace_count, subsystem_count, group_count, port_count, passed_over}
-use Rattle.nvmetcli_json.specs.Saving.{count, list_of, host_data, set_member, uuid_data, device_data, namespace_data, shown_namespace, namespace_at, attributes_data, names_data, namespaces_data, subsystem_data, group_data, shown_group, group_at, groups_data, if_set, addresses_data, port_data, tree_data}
+use Rattle.nvmetcli_json.specs.Saving.{count, list_of, host_data, set_member, uuid_data, device_data, namespace_data, namespace_entry, attributes_data, names_data, namespaces_data, subsystem_data, group_data, group_entry, groups_data, if_set, addresses_data, port_data, tree_data}
 
 -- ---- depth
 highest : (a b k : ℕ) → a ≤ k → b ≤ k → max a b ≤ k
@@ -42,13 +42,9 @@ namespace_depth : (nsid : ℕ) (n : NamespaceRow) → depth (namespace_data nsid
 unfolding namespace_data
 namespace_depth nsid n = let h = device_depth n in omega (arith, h)
 
-some_namespace_depth : (nsid : ℕ) (o : Option NamespaceRow) → depth (shown_namespace nsid o) ≤ 2
-some_namespace_depth nsid None = omega arith
-some_namespace_depth nsid (Some n) = namespace_depth nsid n
-
 namespaces_depth : (m : FinMap nat_cmp NamespaceRow) → depth (namespaces_data m) ≤ 3
 unfolding namespaces_data
-namespaces_depth m = let h = list_depth (namespace_at m) (maps.keys m) 2 (λ nsid. some_namespace_depth nsid (maps.get m nsid)) in omega (arith, h)
+namespaces_depth m = let h = list_depth namespace_entry (maps.entries m) 2 (λ e. namespace_depth e.0 e.1) in omega (arith, h)
 
 strings_depth : (xs : List (List ℕ)) → depth (list_of string xs) ≤ 1
 strings_depth xs = let h = list_depth string xs 0 flat_string in omega (arith, h)
@@ -69,13 +65,9 @@ group_depth : (n : ℕ) (s : Ana) → depth (group_data n s) ≤ 2
 unfolding group_data
 group_depth n s = omega arith
 
-some_group_depth : (n : ℕ) (o : Option Ana) → depth (shown_group n o) ≤ 2
-some_group_depth n None = omega arith
-some_group_depth n (Some s) = group_depth n s
-
 groups_depth : (m : FinMap nat_cmp Ana) → depth (groups_data m) ≤ 3
 unfolding groups_data
-groups_depth m = let h = list_depth (group_at m) (maps.keys m) 2 (λ n. some_group_depth n (maps.get m n)) in omega (arith, h)
+groups_depth m = let h = list_depth group_entry (maps.entries m) 2 (λ e. group_depth e.0 e.1) in omega (arith, h)
 
 address_depth_by : (a b c d : List ℕ) (k l m n r : List ℕ) (o : Option (List ℕ)) → depth (object (member k (string a) (member l (string b) (member m (string c) (member n (string d) (set_member r o no_members)))))) ≤ 1
 address_depth_by a b c d k l m n r None = omega arith
@@ -119,24 +111,18 @@ unfolding namespace_count namespace_data device_data others_among
 namespace_none_by None nsid n is = rw is refl
 namespace_none_by (Some path) nsid n is = rw is refl
 
-some_namespace_none : (nsid : ℕ) (o : Option NamespaceRow) → namespace_count (shown_namespace nsid o) ≡ 0
-unfolding namespace_count others_among
-some_namespace_none nsid None = refl
-some_namespace_none nsid (Some n) = namespace_none_by n.device_path nsid n refl
-
 subsystem_none : (s : SubsystemRow) → subsystem_count (subsystem_data s) ≡ 0
 unfolding subsystem_count subsystem_data attributes_data namespaces_data others_among
-subsystem_none s = let h = none_among namespace_count (namespace_at s.namespaces) (maps.keys s.namespaces) (λ nsid. some_namespace_none nsid (maps.get s.namespaces nsid)) in plus_none _ h
+subsystem_none s = let h = none_among namespace_count namespace_entry (maps.entries s.namespaces) (λ e. namespace_none_by e.1.device_path e.0 e.1 refl) in plus_none _ h
 
-some_group_none : (n : ℕ) (o : Option Ana) → group_count (shown_group n o) ≡ 0
+group_none : (n : ℕ) (s : Ana) → group_count (group_data n s) ≡ 0
 unfolding group_count group_data others_among
-some_group_none n None = refl
-some_group_none n (Some s) = refl
+group_none n s = refl
 
 port_none_by : (o : Option (List ℕ)) (p : PortRow) → if_set p.trtype ≡ o → port_count (port_data p) ≡ 0
 unfolding port_count port_data addresses_data groups_data others_among total_among
-port_none_by None p is = let h = none_among group_count (group_at p.groups) (maps.keys p.groups) (λ n. some_group_none n (maps.get p.groups n)) in rw is (plus_none _ h)
-port_none_by (Some v) p is = let h = none_among group_count (group_at p.groups) (maps.keys p.groups) (λ n. some_group_none n (maps.get p.groups n)) in rw is (plus_none _ h)
+port_none_by None p is = let h = none_among group_count group_entry (maps.entries p.groups) (λ e. group_none e.0 e.1) in rw is (plus_none _ h)
+port_none_by (Some v) p is = let h = none_among group_count group_entry (maps.entries p.groups) (λ e. group_none e.0 e.1) in rw is (plus_none _ h)
 
 pub tree_none : (t : Configuration) → passed_over (tree_data t) ≡ 0
 unfolding passed_over tree_data others_among

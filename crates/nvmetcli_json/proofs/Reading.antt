@@ -19,8 +19,8 @@ use Rattle.nvmetcli_json.specs.Faults.{Found, under, ◌>>=◌, must, may, in_ob
 use Rattle.nvmetcli_json.specs.Kinds.{nqn_in, value_in, number_in, flag_in}
 use Rattle.nvmetcli_json.specs.Edits.{Loads, followed_by, each_from, in_array, allowed}
 use Rattle.nvmetcli_json.specs.Loading.{some_value, attribute, host_in, host_members, device_in, device_members, namespace_in, namespace_members, ana_in, attributes_in, subsystem_attributes, allowed_in, subsystem_in, subsystem_members}
-use Rattle.nvmetcli_json.specs.Saving.{count, list_of, flag_number, flag_text, host_data, set_member, uuid_data, device_data, namespace_data, shown_namespace, namespace_at, attributes_data, names_data, namespaces_data, subsystem_data, set_is_text}
-use Rattle.nvmetcli_json.specs.Written.{flat, host_written, device_written, namespace_written, some_written, written_at, subsystem_written, namespace_reads, subsystem_reads}
+use Rattle.nvmetcli_json.specs.Saving.{count, list_of, flag_number, flag_text, host_data, set_member, uuid_data, device_data, namespace_data, namespace_entry, attributes_data, names_data, namespaces_data, subsystem_data, set_is_text}
+use Rattle.nvmetcli_json.specs.Written.{flat, host_written, device_written, namespace_written, entry_written, subsystem_written, namespace_reads, subsystem_reads}
 use Rattle.nvmetcli_json.proofs.Steps.{goes_to, under_ok}
 
 -- ---- kinds
@@ -130,7 +130,7 @@ uuid_is_text bytes = all_by_index is_text_byte 36 (λ k. cond (is_hyphen_place k
 
 device_read_by : (sub : List ℕ) (nsid : ℕ) (nguid uuid : List ℕ) (path : Option (List ℕ)) → set_is_text path ≡ true
     → device_members sub nsid (object (member (codes "nguid") (uuid_data nguid) (set_member (codes "path") path (member (codes "uuid") (uuid_data uuid) no_members))))
-    ≡ Ok (device_written sub nsid (record { device_path = path; uuid = uuid; nguid = nguid; group = 1; enabled = false }))
+    ≡ Ok (device_written sub nsid (record { device_path = path; disk = None; uuid = uuid; nguid = nguid; group = 1; enabled = false }))
 device_read_by sub nsid nguid uuid None is =
     goes_to _ _ _ _ (may_read (codes "nguid") None some_value _ _ _ refl (some_read _ (uuid_is_text nguid)))
     (goes_to _ _ _ _ (may_miss (codes "path") None some_value _ refl)
@@ -157,13 +157,12 @@ namespace_read sub nsid n small is =
     (goes_to _ _ _ _ (may_read (codes "device") [] (device_in sub nsid) _ _ _ refl (device_read sub nsid n is))
     (goes_to _ _ _ _ (may_read (codes "enable") false flag_in _ _ _ refl (flag_read n.enabled)) refl))))
 
-some_namespace_read : (sub : List ℕ) (nsid : ℕ) (o : Option NamespaceRow) → namespace_reads nsid o ≡ true → namespace_in sub (shown_namespace nsid o) ≡ Ok (some_written sub nsid o)
-some_namespace_read sub nsid None is = absurd cc
-some_namespace_read sub nsid (Some n) is = namespace_read sub nsid n (left_true (ltb nsid (2 ^ 32)) (set_is_text n.device_path) is) (right_true (ltb nsid (2 ^ 32)) (set_is_text n.device_path) is)
+entry_read : (sub : List ℕ) (e : ℕ × NamespaceRow) → namespace_reads e ≡ true → namespace_in sub (namespace_entry e) ≡ Ok (entry_written sub e)
+entry_read sub e is = namespace_read sub e.0 e.1 (left_true (ltb e.0 (2 ^ 32)) (set_is_text e.1.device_path) is) (right_true (ltb e.0 (2 ^ 32)) (set_is_text e.1.device_path) is)
 
-namespaces_read : (sub : List ℕ) (m : FinMap nat_cmp NamespaceRow) → list_all (λ nsid. namespace_reads nsid (maps.get m nsid)) (maps.keys m) ≡ true → in_array (namespace_in sub) (namespaces_data m) ≡ Ok (flat (written_at sub m) (maps.keys m))
+namespaces_read : (sub : List ℕ) (m : FinMap nat_cmp NamespaceRow) → list_all namespace_reads (maps.entries m) ≡ true → in_array (namespace_in sub) (namespaces_data m) ≡ Ok (flat (entry_written sub) (maps.entries m))
 unfolding namespaces_data
-namespaces_read sub m all = list_read (namespace_in sub) (namespace_at m) (written_at sub m) (λ nsid. namespace_reads nsid (maps.get m nsid)) (maps.keys m) (λ nsid h. some_namespace_read sub nsid (maps.get m nsid) h) all
+namespaces_read sub m all = list_read (namespace_in sub) namespace_entry (entry_written sub) namespace_reads (maps.entries m) (entry_read sub) all
 
 -- ---- subsystems
 flag_is_text : (b : Bool) → is_text (flag_text b) ≡ true
@@ -178,7 +177,7 @@ pub subsystem_read : (s : SubsystemRow) → subsystem_reads s ≡ true → subsy
 unfolding subsystem_in subsystem_data subsystem_written subsystem_reads attributes_in attributes_data names_data
 subsystem_read s reads =
     let hosts_all = list_all is_nqn (maps.keys s.allowed_hosts) in
-    let spaces_all = list_all (λ nsid. namespace_reads nsid (maps.get s.namespaces nsid)) (maps.keys s.namespaces) in
+    let spaces_all = list_all namespace_reads (maps.entries s.namespaces) in
     let front = left_true (is_nqn s.nqn && is_text s.serial && is_text s.model_name && hosts_all) spaces_all reads in
     let spaces = right_true (is_nqn s.nqn && is_text s.serial && is_text s.model_name && hosts_all) spaces_all reads in
     let hosts = right_true (is_nqn s.nqn && is_text s.serial && is_text s.model_name) hosts_all front in

@@ -19,8 +19,8 @@ use Rattle.nvmetcli_json.specs.Faults.{Found, must, may, in_object}
 use Rattle.nvmetcli_json.specs.Kinds.{nqn_in, number_in}
 use Rattle.nvmetcli_json.specs.Edits.{in_array, each_from, set_some, linked}
 use Rattle.nvmetcli_json.specs.Loading.{some_value, host_in, subsystem_in, state_in, state_members, group_in, group_members, linked_in, referral_in, addresses_in, address_members, unless_empty, port_in, port_members, edits_in, members_in}
-use Rattle.nvmetcli_json.specs.Saving.{list_of, set_member, set_is_text, if_set, group_data, shown_group, group_at, groups_data, names_data, addresses_data, port_data, host_data, subsystem_data, tree_data}
-use Rattle.nvmetcli_json.specs.Written.{flat, host_written, subsystem_written, subsystem_reads, group_written, some_group_written, group_written_at, group_reads, addresses_read, port_reads, port_written, tree_reads, tree_written}
+use Rattle.nvmetcli_json.specs.Saving.{list_of, set_member, set_is_text, if_set, group_data, group_entry, groups_data, names_data, addresses_data, port_data, host_data, subsystem_data, tree_data}
+use Rattle.nvmetcli_json.specs.Written.{flat, host_written, subsystem_written, subsystem_reads, group_written, group_entry_written, group_reads, addresses_read, port_reads, port_written, tree_reads, tree_written}
 use Rattle.nvmetcli_json.proofs.Steps.{goes_to}
 use Rattle.nvmetcli_json.proofs.Reading.{nqn_read, number_read, some_read, must_read, may_read, may_miss, in_members, left_true, right_true, list_read, host_read, subsystem_read}
 
@@ -43,13 +43,9 @@ group_read id group s small =
     ∙ goes_to _ _ _ _ (must_read (codes "grpid") (number_in (2 ^ 32)) _ _ group refl (number_read (2 ^ 32) group small))
     (goes_to _ _ _ _ (may_read (codes "ana") None state_in _ _ _ refl (state_read s)) refl)
 
-some_group_read : (id group : ℕ) (o : Option Ana) → group_reads group o ≡ true → group_in id (shown_group group o) ≡ Ok (some_group_written id group o)
-some_group_read id group None is = absurd cc
-some_group_read id group (Some s) is = group_read id group s is
-
-groups_read : (id : ℕ) (m : FinMap nat_cmp Ana) → list_all (λ group. group_reads group (maps.get m group)) (maps.keys m) ≡ true → in_array (group_in id) (groups_data m) ≡ Ok (flat (group_written_at id m) (maps.keys m))
+groups_read : (id : ℕ) (m : FinMap nat_cmp Ana) → list_all group_reads (maps.entries m) ≡ true → in_array (group_in id) (groups_data m) ≡ Ok (flat (group_entry_written id) (maps.entries m))
 unfolding groups_data
-groups_read id m all = list_read (group_in id) (group_at m) (group_written_at id m) (λ group. group_reads group (maps.get m group)) (maps.keys m) (λ group h. some_group_read id group (maps.get m group) h) all
+groups_read id m all = list_read (group_in id) group_entry (group_entry_written id) group_reads (maps.entries m) (λ e h. group_read id e.0 e.1 h) all
 
 -- ---- addresses
 abbrev front : ℕ → PortRow → List Edit
@@ -118,7 +114,7 @@ no_referrals = refl
 pub port_read : (p : PortRow) → port_reads p ≡ true → port_in (port_data p) ≡ Ok (port_written p)
 unfolding port_in port_data port_written port_reads names_data
 port_read p reads =
-    let groups_all = list_all (λ group. group_reads group (maps.get p.groups group)) (maps.keys p.groups) in
+    let groups_all = list_all group_reads (maps.entries p.groups) in
     let links_all = list_all is_nqn (maps.keys p.links) in
     let three = left_true (ltb p.id 65536 && addresses_read p && groups_all) links_all reads in
     let links = right_true (ltb p.id 65536 && addresses_read p && groups_all) links_all reads in

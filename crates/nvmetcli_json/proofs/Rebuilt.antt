@@ -1,15 +1,12 @@
--- Maps that are made again, one entry after another in the order of their keys; the hosts of a tree.
+-- The hosts of a tree, made again one after another in the order of their names.
 use Rattle.std.proofs.Common.{◌≡◌, ℕ, zero, suc, ◌+◌, ◌<◌, ◌≤◌, Bool, true, false, ◌&&◌, ltb, T, List, [], ◌∷◌, ◌++◌, map, length, Option, Some, None, Ordering, Less, Equal, Greater, refl, sym, ap, ◌∙◌, subst, arith}
 use Rattle.std.proofs.lemmas.List.{append-nil, length-append}
 use Rattle.std.proofs.Common.{append_assoc}
 use Rattle.std.proofs.lemmas.Bool.{lt-ltb}
-use Rattle.std.specs.Cmp.{IsTotalOrder}
 use Rattle.std.specs.Cmp.Lexicographic.{nat_list_cmp_total}
 use Rattle.std.specs.Option.{option_and_then, is_some}
-use Rattle.std.specs.Ordering.{is_lt, is_eq, ordering_reverse, eq_by_cmp}
 use Rattle.std.specs.FinMap as maps
 use Rattle.std.specs.FinMap.{FinMap, find, put, is_sorted}
-use Rattle.std.specs.FinMap.Entries.{below_all}
 use Rattle.configfs_rows.specs.Nqns.{name_order}
 use Rattle.configfs_tree.specs.Table.{mkdir_host}
 use Rattle.configfs_tree.specs.Outcome.{first_of, with_settings}
@@ -19,43 +16,7 @@ use Rattle.link_rules.specs.declared.edits.Edit.{Edit}
 use Rattle.nvmetcli_json.specs.Edits.{made}
 use Rattle.nvmetcli_json.specs.Laws.{edited, all_edited}
 use Rattle.nvmetcli_json.specs.Written.{flat, host_written}
-
-both : (a b : Bool) → T a → T b → T (a && b)
-both true b p q = q
-both false b p q = p
-
-first : (a b : Bool) → T (a && b) → T a
-first true b p = tt
-first false b p = p
-
-second : (a b : Bool) → T (a && b) → T b
-second true b p = p
-second false b p = absurd p
-
-less : (o : Ordering) → T (is_lt o) → o ≡ Less
-less Less p = refl
-less Equal p = absurd p
-less Greater p = absurd p
-
-module _ {K X : Type 0} {R : K → K → Ordering} (o : IsTotalOrder R) where
-  below_middle : (x : K) (done : List (K × X)) (e : K × X) (more : List (K × X)) → T (below_all R x (done ++ e ∷ more)) → R x e.0 ≡ Less
-  below_middle x [] e more h = less (R x e.0) (first (is_lt (R x e.0)) (below_all R x more) h)
-  below_middle x (f ∷ done) e more h = below_middle x done e more (second (is_lt (R x f.0)) (below_all R x (done ++ e ∷ more)) h)
-
-  tail_sorted : (f : K × X) (es : List (K × X)) → T (is_sorted R (f ∷ es)) → T (is_sorted R es)
-  tail_sorted f es h = second (below_all R f.0 es) (is_sorted R es) h
-
-  above : (f : K × X) (done : List (K × X)) (e : K × X) (more : List (K × X)) → T (is_sorted R (f ∷ (done ++ e ∷ more))) → R e.0 f.0 ≡ Greater
-  above f done e more h = o.antisymm e.0 f.0 ∙ ap ordering_reverse (below_middle f.0 done e more (first (below_all R f.0 (done ++ e ∷ more)) (is_sorted R (done ++ e ∷ more)) h))
-
-  -- an entry whose key is above those before it goes last, and nothing stands at its key
-  pub put_last : (done : List (K × X)) (e : K × X) (more : List (K × X)) → T (is_sorted R (done ++ e ∷ more)) → put R e.0 e.1 done ≡ done ++ e ∷ []
-  put_last [] e more h = refl
-  put_last (f ∷ done) e more h = rw (above f done e more h) (ap (λ es. f ∷ es) (put_last done e more (tail_sorted f (done ++ e ∷ more) h)))
-
-  pub find_none : (done : List (K × X)) (e : K × X) (more : List (K × X)) → T (is_sorted R (done ++ e ∷ more)) → find R e.0 done ≡ None
-  find_none [] e more h = refl
-  find_none (f ∷ done) e more h = rw (above f done e more h) (find_none done e more (tail_sorted f (done ++ e ∷ more) h))
+use Rattle.nvmetcli_json.proofs.Sorted.{put_last, find_none}
 
 abbrev Names : Type 0
 Names = FinMap name_order (Unit {0})

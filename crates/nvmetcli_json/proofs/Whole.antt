@@ -11,7 +11,7 @@ use Rattle.configfs_rows.specs.declared.subsystems.SubsystemRow.{SubsystemRow}
 use Rattle.sqe_cqe.specs.declared.rows.Ana.{Ana}
 use Rattle.configfs_rows.specs.declared.ports.PortRow.{PortRow}
 use Rattle.configfs_tree.specs.declared.configuration.Configuration.{Configuration}
-use Rattle.nvmetcli_json.specs.Saving.{count, list_of, host_data, set_member, device_data, namespace_data, shown_namespace, namespace_at, attributes_data, names_data, namespaces_data, subsystem_data, group_data, shown_group, group_at, groups_data, if_set, addresses_data, port_data, tree_data}
+use Rattle.nvmetcli_json.specs.Saving.{count, list_of, host_data, set_member, device_data, namespace_data, namespace_entry, attributes_data, names_data, namespaces_data, subsystem_data, group_data, group_entry, groups_data, if_set, addresses_data, port_data, tree_data}
 
 both : (a b : Bool) → a ≡ false → b ≡ false → (a || b) ≡ false
 both true b e f = e
@@ -43,13 +43,9 @@ namespace : (nsid : ℕ) (n : NamespaceRow) → has_float (namespace_data nsid n
 unfolding namespace_data
 namespace nsid n = both (has_float (device_data n)) false (device n) refl
 
-some_namespace : (nsid : ℕ) (o : Option NamespaceRow) → has_float (shown_namespace nsid o) ≡ false
-some_namespace nsid None = refl
-some_namespace nsid (Some n) = namespace nsid n
-
 namespaces : (m : FinMap nat_cmp NamespaceRow) → has_float (namespaces_data m) ≡ false
 unfolding namespaces_data
-namespaces m = none_in_list (namespace_at m) (maps.keys m) (λ nsid. some_namespace nsid (maps.get m nsid))
+namespaces m = none_in_list namespace_entry (maps.entries m) (λ e. namespace e.0 e.1)
 
 attributes : (s : SubsystemRow) → has_float (attributes_data s) ≡ false
 unfolding attributes_data
@@ -67,13 +63,9 @@ group : (n : ℕ) (s : Ana) → has_float (group_data n s) ≡ false
 unfolding group_data
 group n s = refl
 
-some_group : (n : ℕ) (o : Option Ana) → has_float (shown_group n o) ≡ false
-some_group n None = refl
-some_group n (Some s) = group n s
-
 groups : (m : FinMap nat_cmp Ana) → has_float (groups_data m) ≡ false
 unfolding groups_data
-groups m = none_in_list (group_at m) (maps.keys m) (λ n. some_group n (maps.get m n))
+groups m = none_in_list group_entry (maps.entries m) (λ e. group e.0 e.1)
 
 addresses : (p : PortRow) → has_float (addresses_data p) ≡ false
 unfolding addresses_data

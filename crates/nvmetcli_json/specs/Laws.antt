@@ -1,4 +1,4 @@
--- What is saved of a tree brings a tree that saves the same.
+-- Edits that are made one after another.
 use Rattle.std.specs.Prelude.{◌≡◌, ℕ, false, List, [], ◌∷◌, Option, Some, None, Ok}
 use Rattle.std.specs.Option.{option_and_then}
 use Rattle.std.specs.FinMap as map
@@ -27,23 +27,3 @@ edited t e = made_tree (edit_outcome t e)
 unfoldable pub all_edited : Configuration → List Edit → Option Configuration
 all_edited t [] = Some t
 all_edited t (e ∷ es) = option_and_then (λ u. all_edited u es) (edited t e)
-
--- ---- the trees that edits reach
-pub data Reached (disks : List DiskLine) : Configuration → Type 0 where
-  fresh : Reached disks (empty_tree disks)
-  next : (t u : Configuration) (e : Edit) → Reached disks t → edited t e ≡ Some u → Reached disks u
-
-pub record IsSettled (t : Configuration) : Type 0 where
-  pub none : (sub : List ℕ) (nsid : ℕ) (s : SubsystemRow) (n : NamespaceRow) → map.get t.settings.subsystems sub ≡ Some s → map.get s.namespaces nsid ≡ Some n → is_draining t s nsid n ≡ false
-
--- ---- the law: what is saved is read whole, makes a tree with no edit refused, and that tree saves the same
-pub record SavesAgain (disks : List DiskLine) (t : Configuration) : Type 0 where
-  pub edits : List Edit
-  pub after : Configuration
-  pub read : edits_in (tree_data t) ≡ Ok edits
-  pub whole : passed_over (tree_data t) ≡ 0
-  pub made : all_edited (empty_tree disks) edits ≡ Some after
-  pub same : tree_data after ≡ tree_data t
-
-abbrev pub SaveIsKept : Type 0
-SaveIsKept = (disks : List DiskLine) (t : Configuration) → Reached disks t → IsSettled t → SavesAgain disks t

@@ -45,7 +45,11 @@ set_member name None ms = ms
 set_member name (Some value) ms = member name (string value) ms
 
 unfoldable pub device_data : NamespaceRow → Data
-device_data n = object (member (codes "nguid") (uuid_data n.nguid) (set_member (codes "path") n.device_path (member (codes "uuid") (uuid_data n.uuid) no_members)))
+device_data n = object (
+    member (codes "nguid") (uuid_data n.nguid)
+    (set_member (codes "path") n.device_path
+    (member (codes "uuid") (uuid_data n.uuid)
+    no_members)))
 
 unfoldable pub namespace_data : ℕ → NamespaceRow → Data
 namespace_data nsid n = object (
@@ -55,12 +59,9 @@ namespace_data nsid n = object (
     (member (codes "nsid") (count nsid)
     no_members))))
 
-abbrev pub shown_namespace : ℕ → Option NamespaceRow → Data
-shown_namespace nsid None = null
-shown_namespace nsid (Some n) = namespace_data nsid n
-
-abbrev pub namespace_at : FinMap nat_cmp NamespaceRow → ℕ → Data
-namespace_at m nsid = shown_namespace nsid (maps.get m nsid)
+-- a namespace with its NSID
+abbrev pub namespace_entry : ℕ × NamespaceRow → Data
+namespace_entry e = namespace_data e.0 e.1
 
 -- ---- subsystems
 unfoldable pub attributes_data : SubsystemRow → Data
@@ -74,7 +75,7 @@ unfoldable pub names_data : FinMap name_order (Unit {0}) → Data
 names_data m = list_of string (maps.keys m)
 
 unfoldable pub namespaces_data : FinMap nat_cmp NamespaceRow → Data
-namespaces_data m = list_of (namespace_at m) (maps.keys m)
+namespaces_data m = list_of namespace_entry (maps.entries m)
 
 unfoldable pub subsystem_data : SubsystemRow → Data
 subsystem_data s = object (
@@ -91,15 +92,12 @@ group_data group s = object (
     (member (codes "grpid") (count group)
     no_members))
 
-abbrev pub shown_group : ℕ → Option Ana → Data
-shown_group group None = null
-shown_group group (Some s) = group_data group s
-
-abbrev pub group_at : FinMap nat_cmp Ana → ℕ → Data
-group_at m group = shown_group group (maps.get m group)
+-- an ANA group with its number
+abbrev pub group_entry : ℕ × Ana → Data
+group_entry e = group_data e.0 e.1
 
 unfoldable pub groups_data : FinMap nat_cmp Ana → Data
-groups_data m = list_of (group_at m) (maps.keys m)
+groups_data m = list_of group_entry (maps.entries m)
 
 abbrev pub if_set : List ℕ → Option (List ℕ)
 if_set value = if length value == 0 then None else Some value
@@ -133,28 +131,17 @@ tree_data t = object (
 abbrev pub saved : Configuration → List ℕ
 saved t = compact_text (tree_data t)
 
--- ---- a tree whose names and values are texts, as every edit that is read makes it
+-- ---- rows whose values are texts, as those of every tree are
 abbrev pub set_is_text : Option (List ℕ) → Bool
 set_is_text None = true
 set_is_text (Some path) = is_text path
 
-abbrev pub path_is_text : Option NamespaceRow → Bool
-path_is_text None = true
-path_is_text (Some n) = set_is_text n.device_path
+unfoldable pub namespaces_are_text : FinMap nat_cmp NamespaceRow → Bool
+namespaces_are_text m = list_all (λ e. set_is_text e.1.device_path) (maps.entries m)
 
 unfoldable pub subsystem_is_text : SubsystemRow → Bool
-subsystem_is_text s =
-    is_text s.nqn && is_text s.serial && is_text s.model_name
-    && list_all is_text (maps.keys s.allowed_hosts)
-    && list_all (λ nsid. path_is_text (maps.get s.namespaces nsid)) (maps.keys s.namespaces)
+subsystem_is_text s = is_text s.serial && is_text s.model_name && namespaces_are_text s.namespaces
 
 unfoldable pub port_is_text : PortRow → Bool
 port_is_text p =
     is_text p.trtype && is_text p.adrfam && is_text p.traddr && is_text p.trsvcid && is_text p.treq
-    && list_all is_text (maps.keys p.links)
-
-unfoldable pub is_of_texts : Configuration → Bool
-is_of_texts t =
-    list_all is_text (maps.keys t.settings.hosts)
-    && list_all subsystem_is_text (maps.values t.settings.subsystems)
-    && list_all port_is_text (maps.values t.settings.ports)

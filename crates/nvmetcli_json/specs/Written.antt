@@ -41,12 +41,8 @@ namespace_written sub nsid n =
     ++ set_some (folder.Namespace sub nsid) attr.AnaGrpid (Some (decimal n.group))
     ++ enabling (folder.Namespace sub nsid) n.enabled
 
-abbrev pub some_written : List ℕ → ℕ → Option NamespaceRow → List Edit
-some_written sub nsid None = []
-some_written sub nsid (Some n) = namespace_written sub nsid n
-
-abbrev pub written_at : List ℕ → FinMap nat_cmp NamespaceRow → ℕ → List Edit
-written_at sub m nsid = some_written sub nsid (maps.get m nsid)
+abbrev pub entry_written : List ℕ → ℕ × NamespaceRow → List Edit
+entry_written sub e = namespace_written sub e.0 e.1
 
 unfoldable pub subsystem_written : SubsystemRow → List Edit
 subsystem_written s =
@@ -55,17 +51,13 @@ subsystem_written s =
     ++ set_some (folder.Subsystem s.nqn) attr.ModelName (Some s.model_name)
     ++ set_some (folder.Subsystem s.nqn) attr.Serial (Some s.serial))
     ++ flat (λ host. allowed s.nqn host ∷ []) (maps.keys s.allowed_hosts)
-    ++ flat (written_at s.nqn s.namespaces) (maps.keys s.namespaces)
+    ++ flat (entry_written s.nqn) (maps.entries s.namespaces)
 
 unfoldable pub group_written : ℕ → ℕ → Ana → List Edit
 group_written id group state = made_group id group ++ set_some (folder.AnaGroup id group) attr.AnaState (Some (ana_text state))
 
-abbrev pub some_group_written : ℕ → ℕ → Option Ana → List Edit
-some_group_written id group None = []
-some_group_written id group (Some state) = group_written id group state
-
-abbrev pub group_written_at : ℕ → FinMap nat_cmp Ana → ℕ → List Edit
-group_written_at id m group = some_group_written id group (maps.get m group)
+abbrev pub group_entry_written : ℕ → ℕ × Ana → List Edit
+group_entry_written id e = group_written id e.0 e.1
 
 unfoldable pub port_written : PortRow → List Edit
 port_written p =
@@ -75,7 +67,7 @@ port_written p =
     ++ set_some (folder.Port p.id) attr.Treq (Some p.treq)
     ++ set_some (folder.Port p.id) attr.Trsvcid (Some p.trsvcid)
     ++ set_some (folder.Port p.id) attr.Trtype (if_set p.trtype))
-    ++ flat (group_written_at p.id p.groups) (maps.keys p.groups)
+    ++ flat (group_entry_written p.id) (maps.entries p.groups)
     ++ []
     ++ flat (λ sub. linked p.id sub ∷ []) (maps.keys p.links)
 
@@ -86,27 +78,29 @@ tree_written t =
     ++ flat port_written (maps.values t.settings.ports)
 
 -- ---- rows whose saved form is read
-abbrev pub namespace_reads : ℕ → Option NamespaceRow → Bool
-namespace_reads nsid None = false
-namespace_reads nsid (Some n) = nat_lt nsid (2 ^ 32) && set_is_text n.device_path
+abbrev pub namespace_reads : ℕ × NamespaceRow → Bool
+namespace_reads e = nat_lt e.0 (2 ^ 32) && set_is_text e.1.device_path
 
 unfoldable pub subsystem_reads : SubsystemRow → Bool
 subsystem_reads s =
     is_nqn s.nqn && is_text s.serial && is_text s.model_name
     && list_all is_nqn (maps.keys s.allowed_hosts)
-    && list_all (λ nsid. namespace_reads nsid (maps.get s.namespaces nsid)) (maps.keys s.namespaces)
+    && list_all namespace_reads (maps.entries s.namespaces)
 
-abbrev pub group_reads : ℕ → Option Ana → Bool
-group_reads group None = false
-group_reads group (Some state) = nat_lt group (2 ^ 32)
+abbrev pub group_reads : ℕ × Ana → Bool
+group_reads e = nat_lt e.0 (2 ^ 32)
 
 unfoldable pub addresses_read : PortRow → Bool
 addresses_read p = is_text p.adrfam && is_text p.traddr && is_text p.treq && is_text p.trsvcid && set_is_text (if_set p.trtype)
 
+-- the number of a port has 16 bits
+abbrev pub has_short_id : PortRow → Bool
+has_short_id p = nat_lt p.id 65536
+
 unfoldable pub port_reads : PortRow → Bool
 port_reads p =
-    nat_lt p.id 65536 && addresses_read p
-    && list_all (λ group. group_reads group (maps.get p.groups group)) (maps.keys p.groups)
+    has_short_id p && addresses_read p
+    && list_all group_reads (maps.entries p.groups)
     && list_all is_nqn (maps.keys p.links)
 
 -- a tree whose saved text is read

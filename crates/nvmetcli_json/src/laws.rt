@@ -1,5 +1,9 @@
 // Laws of loading and saving.
-ghost use Rattle.std.specs.Prelude.{◌≡◌, ◌≤◌, true, Ok, Some};
+ghost use Rattle.std.specs.Prelude.{◌≡◌, ◌≤◌, true, List, Ok, Some};
+ghost use Rattle.std.specs.List.{list_all};
+ghost use Rattle.serde_json.specs.Data.{Data};
+ghost use Rattle.link_rules.specs.Table.{is_fitting};
+ghost use Rattle.link_rules.specs.declared.edits.Edit.{Edit};
 ghost use Rattle.nvmetcli_json.specs.Counting.{passed_over};
 ghost use Rattle.nvmetcli_json.specs.Loading.{edits_in};
 ghost use Rattle.nvmetcli_json.specs.Saving.{tree_data};
@@ -10,7 +14,12 @@ ghost use Rattle.configfs_tree.specs.Outcome.{with_settings};
 ghost use Rattle.nvmetcli_json.specs.Laws.{all_edited};
 ghost use Rattle.configfs_tree.specs.declared.configuration.Configuration as whole;
 
-/// What is saved of a tree is read whole, and brings the edits that make it.
+/// What is read may be made: each edit sets an attribute of its folder, to a text.
+pub fn read_edits_fit()
+    ensures { (d : Data) → (es : List Edit) → edits_in d ≡ Ok es → list_all is_fitting es ≡ true }
+{}
+
+/// What is saved of a tree is read whole, and brings the edits that are written.
 pub fn saved_tree_is_read()
     ensures none { (t : whole.Configuration) → passed_over (tree_data t) ≡ 0 }
     ensures edits { (t : whole.Configuration) → tree_reads t ≡ true → edits_in (tree_data t) ≡ Ok (tree_written t) }

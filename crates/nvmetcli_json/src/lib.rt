@@ -13,7 +13,7 @@ mod saving;
 
 pub use edits::Edits;
 pub use error::{JsonError, Pointer};
-pub use laws::{saved_hosts_are_made, saved_tree_is_read};
+pub use laws::{read_edits_fit, saved_hosts_are_made, saved_tree_is_read};
 pub use link_rules::{Edit, LinkEdit};
 pub use loading::{Loaded, load};
 pub use saving::save;

@@ -1,5 +1,5 @@
 // From a tree to the text of its configuration.
-ghost use Rattle.std.specs.Prelude.{◌≡◌, ℕ, true, IfOk, IfSome, IsTrue, IsUtf8, string_bytes, option_copied, map};
+ghost use Rattle.std.specs.Prelude.{◌≡◌, ◌<◌, ℕ, true, Ok, IfOk, IfSome, IsTrue, IsUtf8, string_bytes, option_copied, map};
 ghost use Rattle.std.specs.List.{list_all};
 ghost use Rattle.std.specs.FinMap as maps;
 ghost use Rattle.uuid.specs.Text.{hyphenated_text, lower};
@@ -7,12 +7,13 @@ ghost use Rattle.configfs_rows.specs.Values.{is_text};
 ghost use Rattle.sqe_cqe.specs.Anas.{ana_text};
 ghost use Rattle.serde_json.specs.Data.{string, null, array};
 ghost use Rattle.serde_json.specs.View.{view, items_of};
-ghost use Rattle.nvmetcli_json.specs.Loading.{IsJson};
-ghost use Rattle.nvmetcli_json.specs.Saving.{flag_text, uuid_data, host_data, set_is_text, path_is_text, device_data, namespace_data, namespace_at, attributes_data, names_data, namespaces_data, subsystem_data, group_data, group_at, groups_data, if_set, addresses_data, port_data, tree_data, list_of, saved, subsystem_is_text, port_is_text, is_of_texts};
+ghost use Rattle.nvmetcli_json.specs.Counting.{passed_over};
+ghost use Rattle.nvmetcli_json.specs.Loading.{IsJson, edits_in};
+ghost use Rattle.nvmetcli_json.specs.Written.{has_short_id, tree_written};
+ghost use Rattle.nvmetcli_json.specs.Saving.{flag_text, uuid_data, host_data, set_is_text, device_data, namespace_data, namespaces_are_text, attributes_data, names_data, namespaces_data, subsystem_data, group_data, groups_data, if_set, addresses_data, port_data, tree_data, list_of, saved, subsystem_is_text, port_is_text};
 
 use configfs_tree::{
-    Groups, Names, NamespaceRow, Namespaces, PortRow, Ports, SubsystemRow, Subsystems,
-    Tree,
+    Groups, Names, NamespaceRow, Namespaces, Nqn, PortRow, Ports, SubsystemRow, Subsystems, Tree,
 };
 use serde_json::{Value, json};
 use sqe_cqe::Ana;
@@ -49,13 +50,20 @@ fn uuid_value(alloc: Global, bytes: [u8; 16]) -> Result<Value, AllocError>
     Value::try_from_str(alloc, text)
 }
 
+// An NQN.
+fn name(alloc: Global, nqn: &Nqn) -> Result<Value, AllocError>
+    ensures { IfOk result (λ v. view v ≡ string nqn.now) }
+{
+    nqn.certify();
+    text(alloc, nqn.as_bytes())
+}
+
 // A host.
 #[tactic(auto, unfolding(crate::specs::Saving::host_data))]
-fn host(alloc: Global, nqn: &[u8]) -> Result<Value, AllocError>
-    requires { IsTrue (is_text nqn.now) }
+fn host(alloc: Global, nqn: &Nqn) -> Result<Value, AllocError>
     ensures { IfOk result (λ v. view v ≡ host_data nqn.now) }
 {
-    let nqn = text(alloc, nqn)?;
+    let nqn = name(alloc, nqn)?;
     json!(in alloc; {"nqn": nqn})
 }
 
@@ -87,29 +95,15 @@ fn namespace(alloc: Global, nsid: u32, row: &NamespaceRow) -> Result<Value, Allo
     json!(in alloc; {"ana_grpid": (row.group), "device": device, "enable": enable, "nsid": nsid})
 }
 
-// The namespace with an NSID.
-fn shown_namespace(alloc: Global, rows: &Namespaces, nsid: u32) -> Result<Value, AllocError>
-    requires { IsTrue (path_is_text (maps.get rows.now nsid)) }
-    ensures { IfOk result (λ v. view v ≡ namespace_at rows.now nsid) }
-{
-    match rows.get(nsid) {
-        None => Ok(Value::Null),
-        Some(row) => namespace(alloc, nsid, row),
-    }
-}
-
 // The namespaces of a subsystem.
-#[tactic(auto, unfolding(crate::specs::Saving::namespaces_data))]
+#[tactic(auto, unfolding(crate::specs::Saving::namespaces_data, crate::specs::Saving::namespaces_are_text))]
 fn namespaces(alloc: Global, rows: &Namespaces) -> Result<Value, AllocError>
-    requires { list_all (λ nsid. path_is_text (maps.get rows.now nsid)) (maps.keys rows.now) ≡ true }
+    requires { namespaces_are_text rows.now ≡ true }
     ensures { IfOk result (λ v. view v ≡ namespaces_data rows.now) }
 {
     let mut shown = Vec::new(alloc);
-    for n in 0..rows.len() {
-        let Some(nsid) = rows.nth(n) else {
-            return Ok(Value::Array(shown));
-        };
-        let value = shown_namespace(alloc, rows, nsid)?;
+    for (nsid, row) in rows.iter() {
+        let value = namespace(alloc, *nsid, row)?;
         shown.push(value)?;
     }
     Ok(Value::Array(shown))
@@ -118,15 +112,11 @@ fn namespaces(alloc: Global, rows: &Namespaces) -> Result<Value, AllocError>
 // Names of links.
 #[tactic(auto, unfolding(crate::specs::Saving::names_data))]
 fn names(alloc: Global, rows: &Names) -> Result<Value, AllocError>
-    requires { list_all is_text (maps.keys rows.now) ≡ true }
     ensures { IfOk result (λ v. view v ≡ names_data rows.now) }
 {
     let mut shown = Vec::new(alloc);
-    for n in 0..rows.len() {
-        let Some(name) = rows.nth(n) else {
-            return Ok(Value::Array(shown));
-        };
-        let value = text(alloc, name.as_bytes())?;
+    for nqn in rows.iter() {
+        let value = name(alloc, nqn)?;
         shown.push(value)?;
     }
     Ok(Value::Array(shown))
@@ -154,7 +144,7 @@ fn subsystem(alloc: Global, row: &SubsystemRow) -> Result<Value, AllocError>
     let hosts = names(alloc, &row.allowed_hosts)?;
     let attributes = attributes(alloc, row)?;
     let namespaces = namespaces(alloc, &row.namespaces)?;
-    let nqn = text(alloc, row.nqn.as_bytes())?;
+    let nqn = name(alloc, &row.nqn)?;
     json!(in alloc; {"allowed_hosts": hosts, "attr": attributes, "namespaces": namespaces, "nqn": nqn})
 }
 
@@ -174,27 +164,14 @@ fn group(alloc: Global, group: u32, state: Ana) -> Result<Value, AllocError>
     json!(in alloc; {"ana": {"state": state}, "grpid": group})
 }
 
-// The ANA group with a number.
-fn shown_group(alloc: Global, rows: &Groups, number: u32) -> Result<Value, AllocError>
-    ensures { IfOk result (λ v. view v ≡ group_at rows.now number) }
-{
-    match rows.get(number) {
-        None => Ok(Value::Null),
-        Some(state) => group(alloc, number, state),
-    }
-}
-
 // The ANA groups of a port.
 #[tactic(auto, unfolding(crate::specs::Saving::groups_data))]
 fn groups(alloc: Global, rows: &Groups) -> Result<Value, AllocError>
     ensures { IfOk result (λ v. view v ≡ groups_data rows.now) }
 {
     let mut shown = Vec::new(alloc);
-    for n in 0..rows.len() {
-        let Some(number) = rows.nth(n) else {
-            return Ok(Value::Array(shown));
-        };
-        let value = shown_group(alloc, rows, number)?;
+    for (number, state) in rows.iter() {
+        let value = group(alloc, *number, *state)?;
         shown.push(value)?;
     }
     Ok(Value::Array(shown))
@@ -221,53 +198,49 @@ fn addresses(alloc: Global, row: &PortRow) -> Result<Value, AllocError>
 #[tactic(auto, unfolding(crate::specs::Saving::port_data, crate::specs::Saving::port_is_text))]
 fn port(alloc: Global, row: &PortRow) -> Result<Value, AllocError>
     requires { port_is_text row.now ≡ true }
-    ensures { IfOk result (λ v. view v ≡ port_data row.now) }
+    ensures shows { IfOk result (λ v. view v ≡ port_data row.now) }
+    ensures id { row.now.id < 65536 }
 {
+    let id = row.id;
     let addresses = addresses(alloc, row)?;
     let groups = groups(alloc, &row.groups)?;
     let links = names(alloc, &row.links)?;
-    json!(in alloc; {"addr": addresses, "ana_groups": groups, "portid": (row.id), "referrals": [], "subsystems": links})
+    json!(in alloc; {"addr": addresses, "ana_groups": groups, "portid": id, "referrals": [], "subsystems": links})
 }
 
+// The hosts.
 fn hosts(alloc: Global, rows: &Names) -> Result<Value, AllocError>
-    requires { list_all is_text (maps.keys rows.now) ≡ true }
     ensures { IfOk result (λ v. view v ≡ list_of host_data (maps.keys rows.now)) }
 {
     let mut shown = Vec::new(alloc);
-    for n in 0..rows.len() {
-        let Some(name) = rows.nth(n) else {
-            return Ok(Value::Array(shown));
-        };
-        let value = host(alloc, name.as_bytes())?;
+    for nqn in rows.iter() {
+        let value = host(alloc, nqn)?;
         shown.push(value)?;
     }
     Ok(Value::Array(shown))
 }
 
+// The ports.
 fn ports(alloc: Global, rows: &Ports) -> Result<Value, AllocError>
     requires { list_all port_is_text (maps.values rows.now) ≡ true }
-    ensures { IfOk result (λ v. view v ≡ list_of port_data (maps.values rows.now)) }
+    ensures shows { IfOk result (λ v. view v ≡ list_of port_data (maps.values rows.now)) }
+    ensures ids { IfOk result (λ _. list_all has_short_id (maps.values rows.now) ≡ true) }
 {
     let mut shown = Vec::new(alloc);
-    for n in 0..rows.len() {
-        let Some(row) = rows.nth(n) else {
-            return Ok(Value::Array(shown));
-        };
+    for row in rows.iter() {
         let value = port(alloc, row)?;
         shown.push(value)?;
     }
     Ok(Value::Array(shown))
 }
 
+// The subsystems.
 fn subsystems(alloc: Global, rows: &Subsystems) -> Result<Value, AllocError>
     requires { list_all subsystem_is_text (maps.values rows.now) ≡ true }
     ensures { IfOk result (λ v. view v ≡ list_of subsystem_data (maps.values rows.now)) }
 {
     let mut shown = Vec::new(alloc);
-    for n in 0..rows.len() {
-        let Some(row) = rows.nth(n) else {
-            return Ok(Value::Array(shown));
-        };
+    for row in rows.iter() {
         let value = subsystem(alloc, row)?;
         shown.push(value)?;
     }
@@ -275,10 +248,12 @@ fn subsystems(alloc: Global, rows: &Subsystems) -> Result<Value, AllocError>
 }
 
 // The configuration of a tree as a value.
-#[tactic(auto, unfolding(crate::specs::Saving::tree_data, crate::specs::Saving::is_of_texts))]
+#[tactic(auto, unfolding(crate::specs::Saving::tree_data))]
 fn tree_value(alloc: Global, t: &Tree) -> Result<Value, AllocError>
-    requires { is_of_texts t.now ≡ true }
-    ensures { IfOk result (λ v. view v ≡ tree_data t.now) }
+    requires subsystems { list_all subsystem_is_text (maps.values t.now.settings.subsystems) ≡ true }
+    requires ports { list_all port_is_text (maps.values t.now.settings.ports) ≡ true }
+    ensures shows { IfOk result (λ v. view v ≡ tree_data t.now) }
+    ensures ids { IfOk result (λ _. list_all has_short_id (maps.values t.now.settings.ports) ≡ true) }
 {
     let hosts = hosts(alloc, t.hosts())?;
     let ports = ports(alloc, t.ports())?;
@@ -287,12 +262,15 @@ fn tree_value(alloc: Global, t: &Tree) -> Result<Value, AllocError>
 }
 
 /// The text of a tree's configuration in nvmetcli's JSON, without a space and with the members of
-/// each object in byte order.
+/// each object in byte order. A draining namespace is written as one that isn't enabled.
 pub fn save(alloc: Global, t: &Tree) -> Result<Vec<u8>, AllocError>
-    requires { is_of_texts t.now ≡ true }
     ensures text { IfOk result (λ bytes. bytes.items ≡ saved t.now) }
     ensures json { IfOk result (λ bytes. IsJson bytes.items (tree_data t.now)) }
+    // `load` reads these edits from it, and passes nothing over.
+    ensures edits { IfOk result (λ _. edits_in (tree_data t.now) ≡ Ok (tree_written t.now)) }
+    ensures whole { passed_over (tree_data t.now) ≡ 0 }
 {
+    t.certify();
     let value = tree_value(alloc, t)?;
     value.to_vec(alloc)
 }

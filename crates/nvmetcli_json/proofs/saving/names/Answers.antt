@@ -1,22 +1,17 @@
-use Rattle.std.proofs.Common.{sym, ap, subst, refl, ◌∙◌, ◌≡◌}
+use Rattle.std.proofs.Common.{length, ◌∙◌}
 use Rattle.std.specs.FinMap as maps
+use Rattle.std.specs.Map.Iter.{deref}
+use Rattle.std.proofs.lemmas.Map.Iter.{iter_end}
 use Rattle.serde_json.specs.Data.{string}
 use Rattle.nvmetcli_json.specs.Saving.{names_data}
-use Rattle.configfs_rows.specs.Values.{is_text}
-use Rattle.nvmetcli_json.proofs.Shown.{shows_on, all_shown, shown_at_none, past_keys, list_shown, all_at}
+use Rattle.nvmetcli_json.proofs.Shown.{all_shown, shown_on}
 use Rattle.nvmetcli_json.proofs.saving.names.Goals as goal
 
-pub text-requires : goal.text-requires
-text-requires c = rw c.as_bytes.ensures (all_at is_text (maps.keys c.args.rows.now) c.loop-n.n c.in-Some.name.now c.requires (sym c.in-Some.ensures))
-
-pub loop-n-preserved : goal.loop-n-preserved
-loop-n-preserved c =
-    rw c.in_ok-push.ensures.items (shows_on string (maps.keys c.args.rows.now) c.loop-n.n c.in-Some.name.now c.in_ok-value.value c.loop-n.shown.items (sym c.in-Some.ensures) (c.in_ok-value.ensures ∙ ap string c.as_bytes.ensures) c.loop-n.invariant)
-
-pub returns-in_default : goal.returns-in_default
-unfolding names_data
-returns-in_default c = list_shown string (maps.keys c.args.rows.now) c.loop-n.shown (shown_at_none string (maps.keys c.args.rows.now) c.loop-n.n c.loop-n.shown.items (sym c.in_default.ensures) c.loop-n.invariant)
+pub loop-nqn-preserved : goal.loop-nqn-preserved
+loop-nqn-preserved c = rw c.in_ok-push.ensures.items (shown_on deref string c.loop-nqn.yielded c.in-Some.nqn c.loop-nqn.shown.items c.in_ok-value.value c.in_ok-value.ensures c.loop-nqn.invariant)
 
 pub returns : goal.returns
 unfolding names_data
-returns c = list_shown string (maps.keys c.args.rows.now) c.loop-n.shown (all_shown string (maps.keys c.args.rows.now) c.loop-n.n c.loop-n.shown.items (past_keys c.args.rows.now c.loop-n.n c.len-n-end.result c.len-n-end.ensures c.loop-n-test.false) c.loop-n.invariant)
+returns c =
+    let stop = iter_end deref (maps.keys c.args.rows.now) c.loop-nqn.yielded c.into_iter-nqn-iterator.result c.loop-nqn.nqn-iterator c.next.new.self c.next.result (c.into_iter-nqn-iterator.ensures.into_iter_gives ∙ c.iter-nqn-items.ensures) c.loop-nqn.yielded_by c.in-None.is c.next.ensures.steps in
+    all_shown deref string c.loop-nqn.yielded c.loop-nqn.shown (maps.keys c.args.rows.now) stop.0 c.loop-nqn.invariant
