@@ -1,5 +1,5 @@
 -- The items of an array, read one after another as a loop does.
-use Rattle.std.proofs.Common.{◌≡◌, ℕ, suc, ◌+◌, ◌<◌, ◌≤◌, List, [], ◌∷◌, ◌++◌, length, get_or, drop, Result, Ok, Err, refl, sym, ap, subst, ◌∙◌, append_assoc, append-nil, arith}
+use Rattle.std.proofs.Common.{◌≡◌, ℕ, suc, ◌+◌, ◌<◌, ◌≤◌, List, [], ◌++◌, length, get_or, drop, Ok, Err, refl, sym, ap, subst, ◌∙◌, append_assoc, append-nil, arith}
 use Rattle.std.proofs.lemmas.List.{at_drop_more, drop_all}
 use Rattle.serde_json.specs.Data.{Data}
 use Rattle.serde_json.specs.View.{view, items_view}
@@ -7,7 +7,7 @@ use Rattle.serde_json.specs.declared.value.Value.{Value}
 use Rattle.nvmetcli_json.specs.declared.error.JsonError.{JsonError}
 use Rattle.nvmetcli_json.specs.declared.error.JsonError.TheVariants as errors
 use Rattle.link_rules.specs.declared.edits.Edit.{Edit}
-use Rattle.nvmetcli_json.specs.Faults.{Found, below, under, numbered, Fails}
+use Rattle.nvmetcli_json.specs.Faults.{below, under, numbered, Fails}
 use Rattle.nvmetcli_json.specs.Pointing.{IsBelow}
 use Rattle.nvmetcli_json.specs.Edits.{Loads, ◌>>◌, followed_by, Adds, each_from}
 use Rattle.nvmetcli_json.proofs.Steps.{fails_below, under_ok}

@@ -1,19 +1,19 @@
 -- What is saved nests at most six deep, and nothing of it is passed over.
-use Rattle.std.proofs.Common.{◌≡◌, ℕ, zero, suc, ◌+◌, ◌≤◌, max, Bool, true, false, List, [], ◌∷◌, map, Option, Some, None, refl, sym, ap, ◌∙◌, arith}
+use Rattle.std.proofs.Common.{◌≡◌, ℕ, ◌+◌, ◌≤◌, max, List, [], ◌∷◌, map, Option, Some, None, refl, arith}
 use Rattle.std.specs.FinMap as maps
 use Rattle.std.specs.FinMap.{FinMap}
 use Rattle.std.specs.Ordering.{nat_cmp}
 use Rattle.std.specs.Prelude.{codes}
 use Rattle.uuid.specs.Text.{hyphenated_text, lower}
-use Rattle.serde_json.specs.Data.{Data, string, array, object, member, no_members, number, unsigned, null, Members, depth, items_depth, members_depth}
+use Rattle.serde_json.specs.Data.{Data, string, object, member, no_members, depth, items_depth}
 use Rattle.serde_json.specs.View.{items_of}
 use Rattle.configfs_rows.specs.declared.namespaces.NamespaceRow.{NamespaceRow}
 use Rattle.configfs_rows.specs.declared.subsystems.SubsystemRow.{SubsystemRow}
 use Rattle.sqe_cqe.specs.declared.rows.Ana.{Ana}
 use Rattle.configfs_rows.specs.declared.ports.PortRow.{PortRow}
 use Rattle.configfs_tree.specs.declared.configuration.Configuration.{Configuration}
-use Rattle.nvmetcli_json.specs.Counting.{others_among, total_among, one, host_count, namespace_count, subsystem_count, group_count, port_count, passed_over}
-use Rattle.nvmetcli_json.specs.Saving.{count, list_of, host_data, set_member, uuid_data, device_data, namespace_data, namespace_entry, attributes_data, names_data, namespaces_data, subsystem_data, group_data, group_entry, groups_data, if_set, addresses_data, port_data, tree_data}
+use Rattle.nvmetcli_json.specs.Counting.{others_among, total_among, host_count, namespace_count, subsystem_count, group_count, port_count, passed_over}
+use Rattle.nvmetcli_json.specs.Saving.{list_of, host_data, set_member, device_data, namespace_data, namespace_entry, attributes_data, names_data, namespaces_data, subsystem_data, group_data, group_entry, groups_data, if_set, addresses_data, port_data, tree_data}
 
 -- ---- depth
 highest : (a b k : ℕ) → a ≤ k → b ≤ k → max a b ≤ k

@@ -1,5 +1,5 @@
 -- A printable text is UTF-8.
-use Rattle.std.proofs.Common.{◌≡◌, ◌<◌, true, ◌&&◌, List, [], ◌∷◌, ℕ, zero, suc, arith}
+use Rattle.std.proofs.Common.{◌≡◌, ◌<◌, true, List, [], ◌∷◌, ℕ, zero, suc, arith}
 use Rattle.std.specs.Prelude.{IsUtf8, nat_lt}
 use Rattle.std.proofs.lemmas.Bool.{ltb-true}
 use Rattle.std.proofs.lemmas.Str.{IsUtf8-from_ascii}

@@ -1,12 +1,12 @@
 -- What is saved is read: hosts, and subsystems with their namespaces.
-use Rattle.std.proofs.Common.{◌≡◌, ℕ, zero, suc, ◌+◌, ◌-◌, ◌/◌, ◌%◌, ◌^◌, ◌<◌, arith, Bool, true, false, ◌&&◌, cond, ltb, List, [], ◌∷◌, ◌++◌, map, Option, Some, None, Result, Ok, Err, refl, sym, ap, ◌∙◌, codes}
+use Rattle.std.proofs.Common.{◌≡◌, ℕ, zero, suc, ◌+◌, ◌-◌, ◌/◌, ◌%◌, ◌^◌, ◌<◌, arith, Bool, true, false, ◌&&◌, cond, ltb, List, [], ◌∷◌, ◌++◌, map, Option, Some, None, Ok, refl, ◌∙◌, codes}
 use Rattle.std.specs.Fmt.{decimal}
 use Rattle.std.specs.List.{list_all}
 use Rattle.std.specs.FinMap as maps
 use Rattle.std.specs.FinMap.{FinMap}
 use Rattle.std.specs.Ordering.{nat_cmp}
 use Rattle.uuid.specs.Text.{hyphenated_text, lower, hyphen, hex_digit, nibble, digit_place, is_hyphen_place, by_index}
-use Rattle.serde_json.specs.Data.{Data, string, array, object, member, no_members, number, unsigned, Members}
+use Rattle.serde_json.specs.Data.{Data, string, object, member, no_members, Members}
 use Rattle.serde_json.specs.Find.{get}
 use Rattle.serde_json.specs.View.{items_of}
 use Rattle.configfs_rows.specs.Nqns.{is_nqn}
@@ -15,10 +15,10 @@ use Rattle.std.proofs.lemmas.Bool.{ltb-true, lt-ltb}
 use Rattle.configfs_rows.specs.declared.namespaces.NamespaceRow.{NamespaceRow}
 use Rattle.configfs_rows.specs.declared.subsystems.SubsystemRow.{SubsystemRow}
 use Rattle.link_rules.specs.declared.edits.Edit.{Edit}
-use Rattle.nvmetcli_json.specs.Faults.{Found, under, ◌>>=◌, must, may, in_object}
+use Rattle.nvmetcli_json.specs.Faults.{Found, under, must, may, in_object}
 use Rattle.nvmetcli_json.specs.Kinds.{nqn_in, value_in, number_in, flag_in}
 use Rattle.nvmetcli_json.specs.Edits.{Loads, followed_by, each_from, in_array, allowed}
-use Rattle.nvmetcli_json.specs.Loading.{some_value, attribute, host_in, host_members, device_in, device_members, namespace_in, namespace_members, ana_in, attributes_in, subsystem_attributes, allowed_in, subsystem_in, subsystem_members}
+use Rattle.nvmetcli_json.specs.Loading.{some_value, host_in, host_members, device_in, device_members, namespace_in, namespace_members, ana_in, attributes_in, subsystem_attributes, allowed_in, subsystem_in, subsystem_members}
 use Rattle.nvmetcli_json.specs.Saving.{count, list_of, flag_number, flag_text, host_data, set_member, uuid_data, device_data, namespace_data, namespace_entry, attributes_data, names_data, namespaces_data, subsystem_data, set_is_text}
 use Rattle.nvmetcli_json.specs.Written.{flat, host_written, device_written, namespace_written, entry_written, subsystem_written, namespace_reads, subsystem_reads}
 use Rattle.nvmetcli_json.proofs.Steps.{goes_to, under_ok}

@@ -1,10 +1,10 @@
 -- What is saved is read: ports, and a whole tree.
-use Rattle.std.proofs.Common.{◌≡◌, ℕ, zero, suc, ◌^◌, Bool, true, false, ◌&&◌, cond, ltb, eqb, List, [], ◌∷◌, ◌++◌, length, map, Option, Some, None, Result, Ok, Err, refl, sym, ap, ◌∙◌, codes}
+use Rattle.std.proofs.Common.{◌≡◌, ℕ, ◌^◌, Bool, true, false, ◌&&◌, cond, ltb, eqb, List, [], ◌∷◌, ◌++◌, length, Option, Some, None, Ok, refl, ap, ◌∙◌, codes}
 use Rattle.std.specs.List.{list_all}
 use Rattle.std.specs.FinMap as maps
 use Rattle.std.specs.FinMap.{FinMap}
 use Rattle.std.specs.Ordering.{nat_cmp}
-use Rattle.serde_json.specs.Data.{Data, string, array, object, member, no_members}
+use Rattle.serde_json.specs.Data.{Data, string, object, member, no_members}
 use Rattle.configfs_rows.specs.Nqns.{is_nqn}
 use Rattle.configfs_rows.specs.Values.{is_text}
 use Rattle.configfs_tree.specs.declared.edits.Attr.TheVariants as attr
@@ -15,8 +15,7 @@ use Rattle.sqe_cqe.specs.declared.rows.Ana.TheVariants as state
 use Rattle.configfs_rows.specs.declared.ports.PortRow.{PortRow}
 use Rattle.configfs_tree.specs.declared.configuration.Configuration.{Configuration}
 use Rattle.link_rules.specs.declared.edits.Edit.{Edit}
-use Rattle.nvmetcli_json.specs.Faults.{Found, must, may, in_object}
-use Rattle.nvmetcli_json.specs.Kinds.{nqn_in, number_in}
+use Rattle.nvmetcli_json.specs.Kinds.{number_in}
 use Rattle.nvmetcli_json.specs.Edits.{in_array, each_from, set_some, linked}
 use Rattle.nvmetcli_json.specs.Loading.{some_value, host_in, subsystem_in, state_in, state_members, group_in, group_members, linked_in, referral_in, addresses_in, address_members, unless_empty, port_in, port_members, edits_in, members_in}
 use Rattle.nvmetcli_json.specs.Saving.{list_of, set_member, set_is_text, if_set, group_data, group_entry, groups_data, names_data, addresses_data, port_data, host_data, subsystem_data, tree_data}

@@ -1,5 +1,5 @@
 -- The rows of a tree that stands are texts, so that it can be saved, and what is saved is read.
-use Rattle.std.proofs.Common.{◌≡◌, ◌≤◌, ◌<◌, ◌^◌, ℕ, suc, Bool, true, false, cond, ◌&&◌, ◌||◌, ◌==◌, ltb, List, [], ◌∷◌, length, Option, Some, None, refl, sym, ap, ◌∙◌, subst, IsTrue, codes, arith}
+use Rattle.std.proofs.Common.{◌≡◌, ◌≤◌, ◌<◌, ◌^◌, ℕ, suc, Bool, true, false, cond, ◌&&◌, ◌||◌, ◌==◌, ltb, List, [], ◌∷◌, length, Option, Some, None, refl, ap, ◌∙◌, codes, arith}
 use Rattle.std.proofs.lemmas.Bool.{lt-ltb, eqb-true}
 use Rattle.std.proofs.lemmas.Slice.Eq.{bytes_eq-Decides}
 use Rattle.std.specs.Cmp.{nat_cmp_total}
@@ -10,13 +10,12 @@ use Rattle.std.specs.List.{list_all}
 use Rattle.std.specs.Option.{is_some}
 use Rattle.std.specs.Str.{bytes_eq}
 use Rattle.configfs_rows.specs.Nqns.{is_name_byte, is_nqn, name_order}
-use Rattle.configfs_rows.specs.Values.{is_text, is_text_byte, is_path, is_short, one_of, is_trtype, is_adrfam, is_treq}
-use Rattle.configfs_rows.specs.declared.limits.TheConstants.{NQN_LEN, SERIAL_LEN, MODEL_LEN, TRADDR_LEN, TRSVCID_LEN}
-use Rattle.configfs_rows.specs.declared.namespaces.NamespaceRow.{NamespaceRow}
+use Rattle.configfs_rows.specs.Values.{is_text, is_text_byte, is_path, is_short, one_of, is_trtype}
+use Rattle.configfs_rows.specs.declared.limits.TheConstants.{SERIAL_LEN, MODEL_LEN, TRADDR_LEN, TRSVCID_LEN}
 use Rattle.configfs_rows.specs.declared.subsystems.SubsystemRow.{SubsystemRow}
 use Rattle.configfs_rows.specs.declared.ports.PortRow.{PortRow}
 use Rattle.configfs_rows.specs.declared.ports.Address.TheVariants as address
-use Rattle.configfs_tree.specs.Sound.{is_kept_path, NamespaceStands, SubsystemStands, PortStands, Hosts, is_address}
+use Rattle.configfs_tree.specs.Sound.{is_kept_path, SubsystemStands, PortStands, Hosts, is_address}
 use Rattle.configfs_tree.specs.Standing.{IsStanding}
 use Rattle.configfs_tree.specs.declared.configuration.Configuration.{Configuration}
 use Rattle.nvmetcli_json.specs.Saving.{set_is_text, namespaces_are_text, subsystem_is_text, port_is_text}

@@ -1,14 +1,12 @@
 -- Faults of parts, and steps one after another.
-use Rattle.std.proofs.Common.{◌≡◌, ◌⊎◌, true, ℕ, List, [], ◌∷◌, ◌++◌, Result, Ok, Err, refl, sym, ap, subst, ◌∙◌, inl, inr, append_assoc}
+use Rattle.std.proofs.Common.{◌≡◌, true, ℕ, List, Ok, Err, refl, sym, subst, ◌∙◌, inl, inr}
 use Rattle.nvmetcli_json.specs.declared.error.JsonError.{JsonError}
 use Rattle.nvmetcli_json.specs.declared.error.JsonError.TheVariants as errors
-use Rattle.link_rules.specs.declared.edits.Edit.{Edit}
-use Rattle.nvmetcli_json.specs.Faults.{Found, below, under, ◌>>=◌, and_then, in_object, Fails, Gives}
+use Rattle.nvmetcli_json.specs.Faults.{Found, below, under, ◌>>=◌, and_then, in_object, Fails}
 use Rattle.serde_json.specs.Data.{Data}
 use Rattle.serde_json.specs.Find.{as_object}
 use Rattle.std.specs.Option.{is_some}
 use Rattle.nvmetcli_json.specs.Pointing.{IsBelow}
-use Rattle.nvmetcli_json.specs.Edits.{Loads, ◌>>◌, followed_by, Adds}
 
 under_err : {A : Type 0} (step : List ℕ) (read : Found A) (e : JsonError) → read ≡ Err e → under step read ≡ Err (below step e)
 unfolding under

@@ -1,9 +1,9 @@
 -- What is saved has no float.
-use Rattle.std.proofs.Common.{◌≡◌, ℕ, Bool, true, false, ◌||◌, List, [], ◌∷◌, map, Option, Some, None, refl, ap, ◌∙◌}
+use Rattle.std.proofs.Common.{◌≡◌, ℕ, Bool, true, false, ◌||◌, List, [], ◌∷◌, map, Option, Some, None, refl}
 use Rattle.std.specs.FinMap as maps
 use Rattle.std.specs.FinMap.{FinMap}
 use Rattle.std.specs.Ordering.{nat_cmp}
-use Rattle.serde_json.specs.Data.{Data, string, array, object, member, no_members, number, unsigned, null, Members}
+use Rattle.serde_json.specs.Data.{Data, string, member, Members}
 use Rattle.serde_json.specs.View.{items_of}
 use Rattle.serde_json.specs.Written.{has_float, items_have_float, members_have_float}
 use Rattle.configfs_rows.specs.declared.namespaces.NamespaceRow.{NamespaceRow}
@@ -11,7 +11,7 @@ use Rattle.configfs_rows.specs.declared.subsystems.SubsystemRow.{SubsystemRow}
 use Rattle.sqe_cqe.specs.declared.rows.Ana.{Ana}
 use Rattle.configfs_rows.specs.declared.ports.PortRow.{PortRow}
 use Rattle.configfs_tree.specs.declared.configuration.Configuration.{Configuration}
-use Rattle.nvmetcli_json.specs.Saving.{count, list_of, host_data, set_member, device_data, namespace_data, namespace_entry, attributes_data, names_data, namespaces_data, subsystem_data, group_data, group_entry, groups_data, if_set, addresses_data, port_data, tree_data}
+use Rattle.nvmetcli_json.specs.Saving.{list_of, host_data, set_member, device_data, namespace_data, namespace_entry, attributes_data, names_data, namespaces_data, subsystem_data, group_data, group_entry, groups_data, if_set, addresses_data, port_data, tree_data}
 
 both : (a b : Bool) → a ≡ false → b ≡ false → (a || b) ≡ false
 both true b e f = e

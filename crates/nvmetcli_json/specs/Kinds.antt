@@ -1,5 +1,5 @@
 -- The kinds of value that members have.
-use Rattle.std.specs.Prelude.{ℕ, ◌==◌, ◌&&◌, ◌||◌, ◌^◌, not, nat_lt, nat_le, Bool, true, false, List, [], ◌∷◌, length, codes, Option, Some, None, Ok, option_and_then, slice_index, if◌then◌else◌}
+use Rattle.std.specs.Prelude.{ℕ, ◌==◌, ◌&&◌, ◌||◌, ◌^◌, not, nat_lt, nat_le, Bool, true, false, List, length, codes, Option, Some, None, Ok, option_and_then, slice_index, if◌then◌else◌}
 use Rattle.std.specs.List.{list_all}
 use Rattle.std.specs.Str.{bytes_eq}
 use Rattle.std.specs.Str.Parse.{digits_value}
@@ -8,7 +8,7 @@ use Rattle.serde_json.specs.Data.{Data}
 use Rattle.serde_json.specs.Find.{as_str, as_number, as_u64}
 use Rattle.configfs_rows.specs.Nqns.{is_nqn}
 use Rattle.configfs_rows.specs.Values.{is_text}
-use Rattle.nvmetcli_json.specs.Faults.{Found, misfit, ◌>>=◌}
+use Rattle.nvmetcli_json.specs.Faults.{Found, misfit}
 
 -- a text, and a whole number from 0 to 2 ^ 64 - 1 that is written in digits alone
 abbrev pub text_of : Data → Option (List ℕ)

@@ -1,19 +1,10 @@
 -- Edits that are made one after another.
-use Rattle.std.specs.Prelude.{◌≡◌, ℕ, false, List, [], ◌∷◌, Option, Some, None, Ok}
+use Rattle.std.specs.Prelude.{List, [], ◌∷◌, Option, Some, None}
 use Rattle.std.specs.Option.{option_and_then}
-use Rattle.std.specs.FinMap as map
-use Rattle.mem_bdev.specs.declared.disk.DiskLine.{DiskLine}
-use Rattle.configfs_rows.specs.declared.namespaces.NamespaceRow.{NamespaceRow}
-use Rattle.configfs_rows.specs.declared.subsystems.SubsystemRow.{SubsystemRow}
-use Rattle.configfs_tree.specs.Asked.{is_draining}
 use Rattle.configfs_tree.specs.Outcome.{Outcome, Refuses, Accepts}
-use Rattle.configfs_tree.specs.Start.{empty_tree}
 use Rattle.configfs_tree.specs.declared.configuration.Configuration.{Configuration}
 use Rattle.link_rules.specs.Table.{edit_outcome}
 use Rattle.link_rules.specs.declared.edits.Edit.{Edit}
-use Rattle.nvmetcli_json.specs.Loading.{edits_in}
-use Rattle.nvmetcli_json.specs.Counting.{passed_over}
-use Rattle.nvmetcli_json.specs.Saving.{tree_data}
 
 -- ---- edits one after another
 abbrev pub made_tree : Outcome → Option Configuration

@@ -1,15 +1,13 @@
 -- The edits of a configuration in the JSON of nvmetcli.
-use Rattle.std.specs.Prelude.{◌≡◌, ℕ, ◌^◌, ◌==◌, ◌&&◌, Bool, true, false, List, [], ◌∷◌, ◌++◌, codes, length, if◌then◌else◌, Option, Some, None, Result, Ok, Err, IsUtf8}
-use Rattle.std.specs.Option.{option_map}
+use Rattle.std.specs.Prelude.{◌≡◌, ℕ, ◌^◌, ◌==◌, Bool, true, false, List, [], ◌∷◌, ◌++◌, codes, length, if◌then◌else◌, Option, Some, None, Ok, IsUtf8}
 use Rattle.std.specs.Fmt.{decimal}
 use Rattle.serde_json.specs.Data.{Data}
 use Rattle.serde_json.specs.Read.{read}
-use Rattle.configfs_tree.specs.declared.edits.Attr.{Attr}
 use Rattle.configfs_tree.specs.declared.edits.Attr.TheVariants as attr
 use Rattle.configfs_tree.specs.declared.edits.Folder.{Folder}
 use Rattle.configfs_tree.specs.declared.edits.Folder.TheVariants as folder
 use Rattle.link_rules.specs.declared.edits.Edit.{Edit}
-use Rattle.nvmetcli_json.specs.Faults.{Found, misfit, ◌>>=◌, must, may, in_object}
+use Rattle.nvmetcli_json.specs.Faults.{Found, ◌>>=◌, must, may, in_object}
 use Rattle.nvmetcli_json.specs.Kinds.{nqn_in, value_in, number_in, flag_in}
 use Rattle.nvmetcli_json.specs.Edits.{Loads, in_array, made, set, allowed, linked, set_some}
 

@@ -1,10 +1,8 @@
 -- The edits that the saved text of a tree brings.
-use Rattle.std.specs.Prelude.{ℕ, ◌^◌, ◌&&◌, nat_lt, Bool, true, false, List, [], ◌∷◌, ◌++◌, map, codes, length, Option, Some, None}
+use Rattle.std.specs.Prelude.{ℕ, ◌^◌, ◌&&◌, nat_lt, Bool, List, [], ◌∷◌, ◌++◌, Some}
 use Rattle.std.specs.List.{list_all}
 use Rattle.std.specs.Fmt.{decimal}
 use Rattle.std.specs.FinMap as maps
-use Rattle.std.specs.FinMap.{FinMap}
-use Rattle.std.specs.Ordering.{nat_cmp}
 use Rattle.uuid.specs.Text.{hyphenated_text, lower}
 use Rattle.configfs_rows.specs.Nqns.{is_nqn}
 use Rattle.configfs_rows.specs.Values.{is_text}
@@ -18,7 +16,7 @@ use Rattle.configfs_rows.specs.declared.ports.PortRow.{PortRow}
 use Rattle.configfs_tree.specs.declared.configuration.Configuration.{Configuration}
 use Rattle.link_rules.specs.declared.edits.Edit.{Edit}
 use Rattle.nvmetcli_json.specs.Edits.{made, set_some, allowed, linked}
-use Rattle.nvmetcli_json.specs.Loading.{enabling, made_group, unless_empty}
+use Rattle.nvmetcli_json.specs.Loading.{enabling, made_group}
 use Rattle.nvmetcli_json.specs.Saving.{flag_text, if_set, set_is_text}
 
 unfoldable pub flat : {X : Type 0} → (X → List Edit) → List X → List Edit

@@ -1,4 +1,4 @@
-use Rattle.std.proofs.Common.{length, ◌∙◌}
+use Rattle.std.proofs.Common.{◌∙◌}
 use Rattle.std.specs.FinMap as maps
 use Rattle.std.specs.Map.Iter.{deref}
 use Rattle.std.proofs.lemmas.Map.Iter.{iter_end}
