@@ -41,7 +41,7 @@ fn try_rows(rt: &impl Abort, alloc: Global, rows: &[Row], front: &str, back: &st
 }
 
 #[test]
-fn texts_load_to_their_answers(rt: TestRuntime) {
+fn texts_load_to_their_answers(rt: HostRuntime) {
     let alloc = rt.alloc();
     try_rows(&rt, alloc, TOP, "", "");
     try_rows(&rt, alloc, SUBSYSTEMS, "{\"subsystems\":", "}");
@@ -69,7 +69,7 @@ fn nested(rt: &impl Abort, alloc: Global, arrays: usize) -> Vec<u8> {
 }
 
 #[test]
-fn nesting_ends_at_127(rt: TestRuntime) {
+fn nesting_ends_at_127(rt: HostRuntime) {
     let alloc = rt.alloc();
     let deepest = nested(&rt, alloc, 126);
     assert!(rt; gives(alloc, &deepest, &Answer::Loads(0, 1)));
@@ -78,7 +78,7 @@ fn nesting_ends_at_127(rt: TestRuntime) {
 }
 
 #[test]
-fn what_is_no_utf8_is_no_json(rt: TestRuntime) {
+fn what_is_no_utf8_is_no_json(rt: HostRuntime) {
     let text: [u8; 5] = [b'"', 195, 40, b'"', b' '];
     assert!(rt; gives(rt.alloc(), &text, &Answer::NotJson));
 }
@@ -187,7 +187,7 @@ fn loaded(rt: &impl Abort, alloc: Global, text: &[u8]) -> (Tree, u64) {
 }
 
 #[test]
-fn trees_are_saved_and_saved_again(rt: TestRuntime) {
+fn trees_are_saved_and_saved_again(rt: HostRuntime) {
     let alloc = rt.alloc();
     for (i, row) in SAVES.iter().enumerate() {
         let (tree, _) = loaded(&rt, alloc, row.0.as_bytes());
@@ -201,13 +201,13 @@ fn trees_are_saved_and_saved_again(rt: TestRuntime) {
 }
 
 #[test]
-fn the_example_passes_four_members_over(rt: TestRuntime) {
+fn the_example_passes_four_members_over(rt: HostRuntime) {
     let (_, passed_over) = loaded(&rt, rt.alloc(), EXAMPLE.as_bytes());
     assert!(rt; passed_over == 4);
 }
 
 #[test]
-fn the_first_refused_edit_is_told(rt: TestRuntime) {
+fn the_first_refused_edit_is_told(rt: HostRuntime) {
     let alloc = rt.alloc();
     for (i, row) in REFUSED.iter().enumerate() {
         let mut tree = start(&rt, alloc);
@@ -223,7 +223,7 @@ fn the_first_refused_edit_is_told(rt: TestRuntime) {
 }
 
 #[test]
-fn a_draining_namespace_is_saved_as_off(rt: TestRuntime) {
+fn a_draining_namespace_is_saved_as_off(rt: HostRuntime) {
     let alloc = rt.alloc();
     let (mut tree, _) = loaded(&rt, alloc, EXAMPLE.as_bytes());
     let sub = Nqn::read(b"testnqn").expect(&rt, "an NQN");
