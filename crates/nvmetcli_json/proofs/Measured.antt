@@ -19,9 +19,11 @@ use Rattle.nvmetcli_json.specs.Saving.{list_of, host_data, set_member, device_da
 highest : (a b k : ℕ) → a ≤ k → b ≤ k → max a b ≤ k
 highest a b k x y = omega arith
 
-list_depth : {X : Type 0} (shows : X → Data) (xs : List X) (k : ℕ) → ((x : X) → depth (shows x) ≤ k) → items_depth (items_of (map shows xs)) ≤ k
+list_depth : {X : Type 0} (shows : X → Data) (xs : List X) (k : ℕ) → ((x : X) → depth (shows x) ≤ k)
+    → items_depth (items_of (map shows xs)) ≤ k
 list_depth shows [] k each = omega arith
-list_depth shows (x ∷ xs) k each = highest (depth (shows x)) (items_depth (items_of (map shows xs))) k (each x) (list_depth shows xs k each)
+list_depth shows (x ∷ xs) k each = highest (depth (shows x)) (items_depth (items_of
+    (map shows xs))) k (each x) (list_depth shows xs k each)
 
 flat_string : (s : List ℕ) → depth (string s) ≤ 0
 flat_string s = omega arith
@@ -30,13 +32,15 @@ host_depth : (nqn : List ℕ) → depth (host_data nqn) ≤ 1
 unfolding host_data
 host_depth nqn = omega arith
 
-device_depth_by : (a b : List ℕ) (k l m : List ℕ) (o : Option (List ℕ)) → depth (object (member k (string a) (set_member l o (member m (string b) no_members)))) ≤ 1
+device_depth_by : (a b : List ℕ) (k l m : List ℕ) (o : Option (List ℕ))
+    → depth (object (member k (string a) (set_member l o (member m (string b) no_members)))) ≤ 1
 device_depth_by a b k l m None = omega arith
 device_depth_by a b k l m (Some v) = omega arith
 
 device_depth : (n : NamespaceRow) → depth (device_data n) ≤ 1
 unfolding device_data
-device_depth n = device_depth_by (hyphenated_text lower n.nguid) (hyphenated_text lower n.uuid) (codes "nguid") (codes "path") (codes "uuid") n.device_path
+device_depth n = device_depth_by (hyphenated_text lower n.nguid) (hyphenated_text lower n.uuid)
+    (codes "nguid") (codes "path") (codes "uuid") n.device_path
 
 namespace_depth : (nsid : ℕ) (n : NamespaceRow) → depth (namespace_data nsid n) ≤ 2
 unfolding namespace_data
@@ -44,7 +48,8 @@ namespace_depth nsid n = let h = device_depth n in omega (arith, h)
 
 namespaces_depth : (m : FinMap nat_cmp NamespaceRow) → depth (namespaces_data m) ≤ 3
 unfolding namespaces_data
-namespaces_depth m = let h = list_depth namespace_entry (maps.entries m) 2 (λ e. namespace_depth e.0 e.1) in omega (arith, h)
+namespaces_depth m = let h = list_depth namespace_entry (maps.entries m) 2
+    (λ e. namespace_depth e.0 e.1) in omega (arith, h)
 
 strings_depth : (xs : List (List ℕ)) → depth (list_of string xs) ≤ 1
 strings_depth xs = let h = list_depth string xs 0 flat_string in omega (arith, h)
@@ -67,15 +72,19 @@ group_depth n s = omega arith
 
 groups_depth : (m : FinMap nat_cmp Ana) → depth (groups_data m) ≤ 3
 unfolding groups_data
-groups_depth m = let h = list_depth group_entry (maps.entries m) 2 (λ e. group_depth e.0 e.1) in omega (arith, h)
+groups_depth m = let h = list_depth group_entry (maps.entries m) 2 (λ e. group_depth e.0 e.1)
+    in omega (arith, h)
 
-address_depth_by : (a b c d : List ℕ) (k l m n r : List ℕ) (o : Option (List ℕ)) → depth (object (member k (string a) (member l (string b) (member m (string c) (member n (string d) (set_member r o no_members)))))) ≤ 1
+address_depth_by : (a b c d : List ℕ) (k l m n r : List ℕ) (o : Option (List ℕ))
+    → depth (object (member k (string a) (member l (string b) (member m (string c) (member n
+    (string d) (set_member r o no_members)))))) ≤ 1
 address_depth_by a b c d k l m n r None = omega arith
 address_depth_by a b c d k l m n r (Some v) = omega arith
 
 addresses_depth : (p : PortRow) → depth (addresses_data p) ≤ 1
 unfolding addresses_data
-addresses_depth p = address_depth_by p.adrfam p.traddr p.treq p.trsvcid (codes "adrfam") (codes "traddr") (codes "treq") (codes "trsvcid") (codes "trtype") (if_set p.trtype)
+addresses_depth p = address_depth_by p.adrfam p.traddr p.treq p.trsvcid (codes "adrfam")
+    (codes "traddr") (codes "treq") (codes "trsvcid") (codes "trtype") (if_set p.trtype)
 
 port_depth : (p : PortRow) → depth (port_data p) ≤ 4
 unfolding port_data names_data
@@ -94,10 +103,12 @@ tree_depth t =
     omega (arith, a, b, c)
 
 -- ---- nothing is passed over
-none_among : {X : Type 0} (counts : Data → ℕ) (shows : X → Data) (xs : List X) → ((x : X) → counts (shows x) ≡ 0) → total_among counts (items_of (map shows xs)) ≡ 0
+none_among : {X : Type 0} (counts : Data → ℕ) (shows : X → Data) (xs : List X) → ((x : X)
+    → counts (shows x) ≡ 0) → total_among counts (items_of (map shows xs)) ≡ 0
 unfolding total_among
 none_among counts shows [] each = refl
-none_among counts shows (x ∷ xs) each = let h = each x in let rest = none_among counts shows xs each in omega (arith, h, rest)
+none_among counts shows (x ∷ xs) each = let h = each x in let rest = none_among counts shows xs each
+    in omega (arith, h, rest)
 
 plus_none : (n : ℕ) → n ≡ 0 → 0 + n ≡ 0
 plus_none n h = omega (arith, h)
@@ -106,28 +117,35 @@ host_none : (nqn : List ℕ) → host_count (host_data nqn) ≡ 0
 unfolding host_count host_data others_among
 host_none nqn = refl
 
-namespace_none_by : (o : Option (List ℕ)) (nsid : ℕ) (n : NamespaceRow) → n.device_path ≡ o → namespace_count (namespace_data nsid n) ≡ 0
+namespace_none_by : (o : Option (List ℕ)) (nsid : ℕ) (n : NamespaceRow) → n.device_path ≡ o
+    → namespace_count (namespace_data nsid n) ≡ 0
 unfolding namespace_count namespace_data device_data others_among
 namespace_none_by None nsid n is = rw is refl
 namespace_none_by (Some path) nsid n is = rw is refl
 
 subsystem_none : (s : SubsystemRow) → subsystem_count (subsystem_data s) ≡ 0
 unfolding subsystem_count subsystem_data attributes_data namespaces_data others_among
-subsystem_none s = let h = none_among namespace_count namespace_entry (maps.entries s.namespaces) (λ e. namespace_none_by e.1.device_path e.0 e.1 refl) in plus_none _ h
+subsystem_none s = let h = none_among namespace_count namespace_entry (maps.entries s.namespaces)
+    (λ e. namespace_none_by e.1.device_path e.0 e.1 refl) in plus_none _ h
 
 group_none : (n : ℕ) (s : Ana) → group_count (group_data n s) ≡ 0
 unfolding group_count group_data others_among
 group_none n s = refl
 
-port_none_by : (o : Option (List ℕ)) (p : PortRow) → if_set p.trtype ≡ o → port_count (port_data p) ≡ 0
+port_none_by : (o : Option (List ℕ)) (p : PortRow) → if_set p.trtype ≡ o
+    → port_count (port_data p) ≡ 0
 unfolding port_count port_data addresses_data groups_data others_among total_among
-port_none_by None p is = let h = none_among group_count group_entry (maps.entries p.groups) (λ e. group_none e.0 e.1) in rw is (plus_none _ h)
-port_none_by (Some v) p is = let h = none_among group_count group_entry (maps.entries p.groups) (λ e. group_none e.0 e.1) in rw is (plus_none _ h)
+port_none_by None p is = let h = none_among group_count group_entry (maps.entries p.groups)
+    (λ e. group_none e.0 e.1) in rw is (plus_none _ h)
+port_none_by (Some v) p is = let h = none_among group_count group_entry (maps.entries p.groups)
+    (λ e. group_none e.0 e.1) in rw is (plus_none _ h)
 
 pub tree_none : (t : Configuration) → passed_over (tree_data t) ≡ 0
 unfolding passed_over tree_data others_among
 tree_none t =
     let a = none_among host_count host_data (maps.keys t.settings.hosts) host_none in
-    let b = none_among subsystem_count subsystem_data (maps.values t.settings.subsystems) subsystem_none in
-    let c = none_among port_count port_data (maps.values t.settings.ports) (λ p. port_none_by (if_set p.trtype) p refl) in
+    let b = none_among subsystem_count subsystem_data
+    (maps.values t.settings.subsystems) subsystem_none in
+    let c = none_among port_count port_data (maps.values t.settings.ports) (λ p. port_none_by
+    (if_set p.trtype) p refl) in
     omega (arith, a, b, c)

@@ -15,8 +15,10 @@ zero_is_low = omega arith
 
 text_is_ascii : (bytes : List ℕ) → is_text bytes ≡ true → IsAscii bytes
 text_is_ascii [] h i = zero_is_low
-text_is_ascii (b ∷ bytes) h zero = low b (ltb-true b 127 (right_true (nat_lt 31 b) (nat_lt b 127) (left_true (is_text_byte b) (is_text bytes) h)))
-text_is_ascii (b ∷ bytes) h (suc i) = text_is_ascii bytes (right_true (is_text_byte b) (is_text bytes) h) i
+text_is_ascii (b ∷ bytes) h zero = low b (ltb-true b 127 (right_true (nat_lt 31 b) (nat_lt b 127)
+    (left_true (is_text_byte b) (is_text bytes) h)))
+text_is_ascii (b ∷ bytes) h (suc i) = text_is_ascii bytes (right_true (is_text_byte b)
+    (is_text bytes) h) i
 
 pub text_is_utf8 : (bytes : List ℕ) → is_text bytes ≡ true → IsUtf8 bytes
 text_is_utf8 bytes h = IsUtf8-from_ascii bytes (text_is_ascii bytes h)

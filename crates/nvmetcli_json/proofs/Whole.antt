@@ -17,17 +17,22 @@ both : (a b : Bool) → a ≡ false → b ≡ false → (a || b) ≡ false
 both true b e f = e
 both false b e f = f
 
-none_in : {X : Type 0} (shows : X → Data) (xs : List X) → ((x : X) → has_float (shows x) ≡ false) → items_have_float (items_of (map shows xs)) ≡ false
+none_in : {X : Type 0} (shows : X → Data) (xs : List X) → ((x : X) → has_float (shows x) ≡ false)
+    → items_have_float (items_of (map shows xs)) ≡ false
 none_in shows [] h = refl
-none_in shows (x ∷ xs) h = both (has_float (shows x)) (items_have_float (items_of (map shows xs))) (h x) (none_in shows xs h)
+none_in shows (x ∷ xs) h = both (has_float (shows x)) (items_have_float (items_of (map shows xs)))
+    (h x) (none_in shows xs h)
 
-none_in_list : {X : Type 0} (shows : X → Data) (xs : List X) → ((x : X) → has_float (shows x) ≡ false) → has_float (list_of shows xs) ≡ false
+none_in_list : {X : Type 0} (shows : X → Data) (xs : List X) → ((x : X)
+    → has_float (shows x) ≡ false) → has_float (list_of shows xs) ≡ false
 none_in_list shows xs h = none_in shows xs h
 
-more : (k : List ℕ) (d : Data) (ms : Members) → has_float d ≡ false → members_have_float ms ≡ false → members_have_float (member k d ms) ≡ false
+more : (k : List ℕ) (d : Data) (ms : Members) → has_float d ≡ false → members_have_float ms ≡ false
+    → members_have_float (member k d ms) ≡ false
 more k d ms h rest = both (has_float d) (members_have_float ms) h rest
 
-maybe : (k : List ℕ) (o : Option (List ℕ)) (ms : Members) → members_have_float ms ≡ false → members_have_float (set_member k o ms) ≡ false
+maybe : (k : List ℕ) (o : Option (List ℕ)) (ms : Members) → members_have_float ms ≡ false
+    → members_have_float (set_member k o ms) ≡ false
 maybe k None ms h = h
 maybe k (Some v) ms h = h
 
@@ -55,8 +60,10 @@ subsystem : (s : SubsystemRow) → has_float (subsystem_data s) ≡ false
 unfolding subsystem_data names_data
 subsystem s =
     let hosts = none_in_list string (maps.keys s.allowed_hosts) (λ x. refl) in
-    both (has_float (list_of string (maps.keys s.allowed_hosts))) (has_float (attributes_data s) || (has_float (namespaces_data s.namespaces) || false)) hosts
-    (both (has_float (attributes_data s)) (has_float (namespaces_data s.namespaces) || false) (attributes s)
+    both (has_float (list_of string (maps.keys s.allowed_hosts))) (has_float (attributes_data s)
+    || (has_float (namespaces_data s.namespaces) || false)) hosts
+    (both (has_float (attributes_data s)) (has_float (namespaces_data s.namespaces)
+    || false) (attributes s)
     (both (has_float (namespaces_data s.namespaces)) false (namespaces s.namespaces) refl))
 
 group : (n : ℕ) (s : Ana) → has_float (group_data n s) ≡ false
@@ -75,8 +82,10 @@ port : (p : PortRow) → has_float (port_data p) ≡ false
 unfolding port_data names_data
 port p =
     let links = none_in_list string (maps.keys p.links) (λ x. refl) in
-    both (has_float (addresses_data p)) (has_float (groups_data p.groups) || (has_float (list_of string (maps.keys p.links)) || false)) (addresses p)
-    (both (has_float (groups_data p.groups)) (has_float (list_of string (maps.keys p.links)) || false) (groups p.groups)
+    both (has_float (addresses_data p)) (has_float (groups_data p.groups)
+    || (has_float (list_of string (maps.keys p.links)) || false)) (addresses p)
+    (both (has_float (groups_data p.groups)) (has_float (list_of string (maps.keys p.links))
+    || false) (groups p.groups)
     (both (has_float (list_of string (maps.keys p.links))) false links refl))
 
 pub tree_has_none : (t : Configuration) → has_float (tree_data t) ≡ false
@@ -85,6 +94,10 @@ tree_has_none t =
     let hosts = none_in_list host_data (maps.keys t.settings.hosts) host in
     let ports = none_in_list port_data (maps.values t.settings.ports) port in
     let subsystems = none_in_list subsystem_data (maps.values t.settings.subsystems) subsystem in
-    both (has_float (list_of host_data (maps.keys t.settings.hosts))) (has_float (list_of port_data (maps.values t.settings.ports)) || (has_float (list_of subsystem_data (maps.values t.settings.subsystems)) || false)) hosts
-    (both (has_float (list_of port_data (maps.values t.settings.ports))) (has_float (list_of subsystem_data (maps.values t.settings.subsystems)) || false) ports
-    (both (has_float (list_of subsystem_data (maps.values t.settings.subsystems))) false subsystems refl))
+    both (has_float (list_of host_data (maps.keys t.settings.hosts))) (has_float (list_of port_data
+    (maps.values t.settings.ports))
+    || (has_float (list_of subsystem_data (maps.values t.settings.subsystems)) || false)) hosts
+    (both (has_float (list_of port_data (maps.values t.settings.ports))) (has_float
+    (list_of subsystem_data (maps.values t.settings.subsystems)) || false) ports
+    (both (has_float (list_of subsystem_data
+    (maps.values t.settings.subsystems))) false subsystems refl))

@@ -25,7 +25,8 @@ if_nqn (Some s) = if is_nqn s then Ok s else misfit
 unfoldable pub nqn_in : Data → Found (List ℕ)
 nqn_in d = if_nqn (text_of d)
 
--- ---- the value of an attribute: a text of bytes from 20h to 7Eh, or a number that is taken for its decimal text
+-- ---- the value of an attribute: a text of bytes from 20h to 7Eh, or a number that is taken for
+-- its decimal text
 abbrev pub if_number : Option ℕ → Found (List ℕ)
 if_number None = misfit
 if_number (Some n) = Ok (decimal n)
@@ -40,10 +41,12 @@ value_in d = if_value (text_of d) (whole_of d)
 -- ---- a number below a limit, or its decimal text
 -- digits alone, with no leading zero but in `0` itself
 unfoldable pub is_numeral : List ℕ → Bool
-is_numeral word = nat_le 1 (length word) && (length word == 1 || not (slice_index word 0 == 48)) && list_all (λ b. nat_le 48 b && nat_le b 57) word
+is_numeral word = nat_le 1 (length word) && (length word == 1 || not (slice_index word 0 == 48))
+    && list_all (λ b. nat_le 48 b && nat_le b 57) word
 
 unfoldable pub number_of : List ℕ → Option ℕ
-number_of word = if is_numeral word && nat_lt (digits_value 10 word) (2 ^ 64) then Some (digits_value 10 word) else None
+number_of word = if is_numeral word && nat_lt (digits_value 10 word) (2 ^ 64) then Some
+    (digits_value 10 word) else None
 
 abbrev pub either_number : Option (List ℕ) → Option ℕ → Option ℕ
 either_number None n = n
@@ -60,7 +63,8 @@ number_in limit d = if_below limit (either_number (text_of d) (whole_of d))
 abbrev pub if_flag : Option (List ℕ) → Option ℕ → Found Bool
 if_flag None None = misfit
 if_flag None (Some n) = if n == 0 then Ok false else (if n == 1 then Ok true else misfit)
-if_flag (Some s) n = if bytes_eq s (codes "0") then Ok false else (if bytes_eq s (codes "1") then Ok true else misfit)
+if_flag (Some s) n = if bytes_eq s (codes "0") then Ok false else (if bytes_eq s
+    (codes "1") then Ok true else misfit)
 
 unfoldable pub flag_in : Data → Found Bool
 flag_in d = if_flag (text_of d) (whole_of d)

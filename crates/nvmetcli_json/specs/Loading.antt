@@ -165,7 +165,8 @@ members_in d =
 unfoldable pub edits_in : Data → Loads
 edits_in d = in_object members_in d
 
--- the bytes are UTF-8 and the text of this JSON value, in which arrays and objects nest at most 127 deep
+-- the bytes are UTF-8 and the text of this JSON value, in which arrays and objects nest at most 127
+-- deep
 pub record IsJson (bytes : List ℕ) (d : Data) : Type 0 where
   pub utf8 : IsUtf8 bytes
   pub value : read bytes ≡ Some d

@@ -52,7 +52,8 @@ subsystem_written s =
     ++ flat (entry_written s.nqn) (maps.entries s.namespaces)
 
 unfoldable pub group_written : ℕ → ℕ → Ana → List Edit
-group_written id group state = made_group id group ++ set_some (folder.AnaGroup id group) attr.AnaState (Some (ana_text state))
+group_written id group state = made_group id group
+    ++ set_some (folder.AnaGroup id group) attr.AnaState (Some (ana_text state))
 
 abbrev pub group_entry_written : ℕ → ℕ × Ana → List Edit
 group_entry_written id e = group_written id e.0 e.1
@@ -89,7 +90,8 @@ abbrev pub group_reads : ℕ × Ana → Bool
 group_reads e = nat_lt e.0 (2 ^ 32)
 
 unfoldable pub addresses_read : PortRow → Bool
-addresses_read p = is_text p.adrfam && is_text p.traddr && is_text p.treq && is_text p.trsvcid && set_is_text (if_set p.trtype)
+addresses_read p = is_text p.adrfam && is_text p.traddr && is_text p.treq && is_text p.trsvcid
+    && set_is_text (if_set p.trtype)
 
 -- the number of a port has 16 bits
 abbrev pub has_short_id : PortRow → Bool

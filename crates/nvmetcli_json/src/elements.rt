@@ -68,7 +68,8 @@ fn device_member(
     v: &Value,
     out: &mut Edits,
 ) -> Result<(), JsonError>
-    ensures { Adds out.old out.new result (may (codes "device") [] (device_in sub.now nsid) (view v.now)) }
+    ensures { Adds out.old out.new result (may (codes "device") [] (device_in sub.now nsid)
+        (view v.now)) }
 {
     let Some(d) = v.get("device") else {
         return Ok(());
@@ -178,7 +179,8 @@ fn attributes(alloc: Global, sub: &Nqn, v: &Value, out: &mut Edits) -> Result<()
 
 #[tactic(auto, unfolding(crate::specs::Faults::may, crate::specs::Faults::under), using(crate::proofs::Steps::fails_below))]
 fn attributes_member(alloc: Global, sub: &Nqn, v: &Value, out: &mut Edits) -> Result<(), JsonError>
-    ensures { Adds out.old out.new result (may (codes "attr") [] (attributes_in sub.now) (view v.now)) }
+    ensures { Adds out.old out.new result (may (codes "attr") [] (attributes_in sub.now)
+        (view v.now)) }
 {
     let Some(d) = v.get("attr") else {
         return Ok(());

@@ -22,11 +22,14 @@ pub fn read_edits_fit()
 /// What is saved of a tree is read whole, and brings the edits that are written.
 pub fn saved_tree_is_read()
     ensures none { (t : whole.Configuration) → passed_over (tree_data t) ≡ 0 }
-    ensures edits { (t : whole.Configuration) → tree_reads t ≡ true → edits_in (tree_data t) ≡ Ok (tree_written t) }
+    ensures edits { (t : whole.Configuration) → tree_reads t ≡ true
+        → edits_in (tree_data t) ≡ Ok (tree_written t) }
 {}
 
 /// The edits of saved hosts make these hosts, in a tree that has none.
 pub fn saved_hosts_are_made()
-    ensures { (t : whole.Configuration) → (hosts : map.FinMap name_order (Unit {0})) → map.len t.settings.hosts ≡ 0 → map.len hosts ≤ 64
-        → all_edited t (flat host_written (map.keys hosts)) ≡ Some (with_settings t (record t.settings { hosts = hosts })) }
+    ensures { (t : whole.Configuration) → (hosts : map.FinMap name_order (Unit {0}))
+        → map.len t.settings.hosts ≡ 0 → map.len hosts ≤ 64
+        → all_edited t (flat host_written (map.keys hosts)) ≡ Some (with_settings t
+        (record t.settings { hosts = hosts })) }
 {}

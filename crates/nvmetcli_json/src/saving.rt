@@ -250,10 +250,12 @@ fn subsystems(alloc: Global, rows: &Subsystems) -> Result<Value, AllocError>
 // The configuration of a tree as a value.
 #[tactic(auto, unfolding(crate::specs::Saving::tree_data))]
 fn tree_value(alloc: Global, t: &Tree) -> Result<Value, AllocError>
-    requires subsystems { list_all subsystem_is_text (maps.values t.now.settings.subsystems) ≡ true }
+    requires subsystems { list_all subsystem_is_text
+        (maps.values t.now.settings.subsystems) ≡ true }
     requires ports { list_all port_is_text (maps.values t.now.settings.ports) ≡ true }
     ensures shows { IfOk result (λ v. view v ≡ tree_data t.now) }
-    ensures ids { IfOk result (λ _. list_all has_short_id (maps.values t.now.settings.ports) ≡ true) }
+    ensures ids { IfOk result (λ _. list_all has_short_id
+        (maps.values t.now.settings.ports) ≡ true) }
 {
     let hosts = hosts(alloc, t.hosts())?;
     let ports = ports(alloc, t.ports())?;
