@@ -6,3 +6,5 @@ pub mod Shapes
 pub mod Simulating
 pub mod Admitting
 pub mod Executing
+pub mod Changes
+pub mod Holding

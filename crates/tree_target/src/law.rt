@@ -3,6 +3,8 @@ ghost use Rattle.tree_target.specs.Legal.{LawfulCallsAreLegal};
 ghost use Rattle.tree_target.specs.Fixed.{UnpublishedLeaveFixed, QueuesLeaveDesk, PlainAtDesk, EditsDependOnTheTree, EditsAreAsComputed, EditsLeaveAttached};
 ghost use Rattle.tree_target.specs.Held.{HeldChanges, HeldIsShown, HeldReplies, HeldKeepsHolder, BindingsAreOwn};
 
+use io_commands::admitted_is_on_a_seen_disk;
+
 /// The history that lawful calls make is legal.
 pub fn lawful_calls_are_legal()
     ensures { LawfulCallsAreLegal }
@@ -47,7 +49,9 @@ pub fn held_changes()
 /// A submit's reply is Held only on a disk on which an enabled namespace is.
 pub fn held_is_shown()
     ensures { HeldIsShown }
-{}
+{
+    admitted_is_on_a_seen_disk();
+}
 
 /// The reply is Held where a disk is held.
 pub fn held_replies()
