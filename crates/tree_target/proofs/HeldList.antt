@@ -154,8 +154,7 @@ pub single_snoc : (held : List Command) (c : Command) → AreSingle held
     → find (is_of c.queue) held ≡ None → AreSingle (held ++ c ∷ [])
 single_snoc [] c all none = (tt, tt)
 single_snoc (h ∷ held) c all none =
-    let w = none_on (is_of c.queue) h held (is_of c.queue h) refl none in
-    (
+    let w = none_on (is_of c.queue) h held (is_of c.queue h) refl none in (
       all_snoc (λ (k : Command). (k.queue == h.queue) ≡ false) held c all.0
           (flip c.queue h.queue ∙ w.here),
       single_snoc held c all.1 w.later,

@@ -8,3 +8,4 @@ pub mod Admitting
 pub mod Executing
 pub mod Changes
 pub mod Holding
+pub mod Lives

@@ -251,7 +251,7 @@ freed_others path (d ∷ disks) i ne = free_step path d disks (hold path None di
     (bytes_eq d.path path) (position_or_len (λ (p : List ℕ). bytes_eq p path) (paths_of disks))
     (freed_others path disks) i ne
 
-some_disk : (o : Option DiskRow) (h : Holder) → holder_of o ≡ Some h → Σ DiskRow (λ d. o ≡ Some d)
+some_disk : (o : Option DiskRow) (h : Holder) → holder_of o ≡ Some h → (d : DiskRow) × (o ≡ Some d)
 some_disk None h e = absurd (none_is h e) where
   none_is : (h : Holder) → None ≡ Some h → ⊥
   none_is h e = cc
@@ -274,7 +274,7 @@ busy_disk : (held : List Command) (disk : Option ℕ) (i : ℕ) → none_on held
     → list_any (is_on i) held ≡ true → disk ≡ Some i → ⊥
 busy_disk held disk i free busy is =
     let off : not (list_any (is_on i) held) ≡ true = sym (ap (none_on held) is) ∙ free in
-    both_ways true (sym (sym off ∙ ap (λ b. not b) busy)) refl
+    both_ways true (sym off ∙ ap (λ b. not b) busy) refl
 
 path_frees : (t : Configuration) (held : List Command) (path : Option (List ℕ)) (disk : Option ℕ)
     (i : ℕ) (h : Holder) → disk ≡ disk_number (paths_of t.disks) path

@@ -4,16 +4,16 @@ ghost use Rattle.std.specs.List.{list_any};
 ghost use Rattle.std.specs.Vec.{vec_capacity};
 ghost use Rattle.mem_bdev.specs.Texts.{HasRoom, appended};
 ghost use Rattle.io_commands.specs.Jobs.{disk_of};
-ghost use Rattle.tree_target.specs.Kept.{FitsOn, HasDataOn, given_on};
+ghost use Rattle.tree_target.specs.Kept.{FitsOn, HasDataOn, given_on, is_of};
 ghost use Rattle.tree_target.specs.Model.{is_command};
 ghost use Rattle.tree_target.specs.Steps.{is_on, none_on, read_of, without, worked};
 
 use crate::calls::Command;
-use io_commands::{Job, do_io};
+use io_commands::{Job, do_io, given_len};
 use mem_bdev::{Buffer, Disk};
 
 // The number of a job's disk.
-pub(crate) fn number_of_disk(job: &Job) -> u8
+fn number_of_disk(job: &Job) -> u8
     ensures { result ≡ disk_of job.now }
 {
     match job {
@@ -63,6 +63,22 @@ pub(crate) fn find_command(held: &[Command], queue: u32, number: u32) -> Option<
     }
 }
 
+// The command of a queue, where it holds one.
+pub(crate) fn command_of_queue(held: &[Command], queue: u32) -> Option<Command>
+    ensures { result ≡ find (is_of queue) held.now }
+{
+    match held {
+        [] => None,
+        [h, rest @ ..] => {
+            if h.queue == queue {
+                Some(*h)
+            } else {
+                command_of_queue(rest, queue)
+            }
+        }
+    }
+}
+
 // Takes the command of a capsule out, where it is held.
 pub(crate) fn take_command(held: &mut Vec<Command>, queue: u32, number: u32) -> Option<Command>
     ensures command { result ≡ find (is_command queue number) held.old.items }
@@ -73,6 +89,15 @@ pub(crate) fn take_command(held: &mut Vec<Command>, queue: u32, number: u32) -> 
         None => None,
         Some(at) => Some(held.remove(at)),
     }
+}
+
+// How many bytes a job gives to the host, on the disk with its number.
+pub(crate) fn given(disks: &[Disk], job: &Job) -> u32
+    requires { FitsOn job.now (slice_get disks.now (disk_of job.now)) }
+    ensures { result ≡ given_on job.now (slice_get disks.now (disk_of job.now)) }
+{
+    let number = usize::from(number_of_disk(job));
+    given_len(job, &disks[number])
 }
 
 // Does a job on the disk with its number, and appends what it reads.

@@ -10,10 +10,9 @@ ghost use Rattle.tree_target.specs.Stands.{StandsFor};
 ghost use Rattle.tree_target.specs.Kept.{answered};
 
 use crate::calls::{Command, Reply};
-use crate::commands::{find_command, number_of_disk};
+use crate::commands::{command_of_queue, find_command, given};
 use crate::start::{LoadError, MAX_QUEUES, apply_edits, blank_disks, unconnected};
 use configfs_tree::{FolderEdit, Tree};
-use io_commands::given_len;
 use mem_bdev::{Disk, DiskLine};
 use sqe_cqe::{Binding, Controllers, Cqe, SUCCESS};
 use std::alloc::{AllocError, Global};
@@ -123,6 +122,24 @@ impl Target {
         &self.bindings[queue as usize - 1]
     }
 
+    /// How many queues the target has; they are numbered from 1.
+    pub fn queues(&self) -> usize
+        ensures { result ≡ length self.now.bindings }
+    {
+        self.bindings.len()
+    }
+
+    /// Whether the queue holds no command.
+    pub fn is_idle(&self, queue: u32) -> bool
+        ensures idle { IsTrue result → IsIdle self.now queue }
+        ensures only { IsIdle self.now queue → IsTrue result }
+    {
+        match command_of_queue(&self.held, queue) {
+            None => true,
+            Some(_) => false,
+        }
+    }
+
     // The QID of a queue, 0 before Connect.
     pub(crate) fn qid(&self, queue: u32) -> u16
         ensures { result ≡ qid_from (bound_in self.now.bindings queue) }
@@ -131,7 +148,12 @@ impl Target {
             return 0;
         }
         match self.bindings.get(queue as usize - 1) {
-            Some(Binding { port: _, bound: Some(bound) }) => bound.qid,
+            Some(
+                Binding {
+                    port: _,
+                    bound: Some(bound),
+                },
+            ) => bound.qid,
             _ => 0,
         }
     }
@@ -155,10 +177,7 @@ impl Target {
     {
         match find_command(&self.held, queue, number) {
             None => 0,
-            Some(command) => {
-                let disk = &self.disks[usize::from(number_of_disk(&command.job))];
-                given_len(&command.job, disk)
-            }
+            Some(command) => given(&self.disks, &command.job),
         }
     }
 }

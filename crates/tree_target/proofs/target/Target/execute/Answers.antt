@@ -33,9 +33,15 @@ invariant_of-self c =
 pub returns-clause-does : goal.returns-clause-does
 returns-clause-does c =
     let len : length c.work.new.disks ≡ c.self.inside.disks.len = search rules in
-    rw (c.complete.ensures, c.qid-qid.ensures, ← c.self.view_is, c.in-Some.ensures.rest,
-    with_items_is c.self.inside.disks c.work.new.disks len, c.work.ensures.disks,
-    c.deref_mut.ensures.value)
+    rw (
+      c.complete.ensures,
+      c.qid-qid.ensures,
+      ← c.self.view_is,
+      c.in-Some.ensures.rest,
+      with_items_is c.self.inside.disks c.work.new.disks len,
+      c.work.ensures.disks,
+      c.deref_mut.ensures.value,
+    )
     (executes (the_view c.self.inside) c.args.queue c.args.number c.args.payload.now
     c.in-Some.command (sym c.in-Some.ensures.command))
 
@@ -50,8 +56,12 @@ returns-clause-others c =
     let asked : HasHeldData (the_view c.self.inside) c.args.queue c.args.number
     (length c.args.payload.now) = subst (λ (x : Kept). HasHeldData x c.args.queue c.args.number
     (length c.args.payload.now)) (sym c.self.view_is) c.requires.data in
-    rw (← c.self.view_is, c.in-Some.ensures.rest,
-    with_items_is c.self.inside.disks c.work.new.disks len, c.work.ensures.disks,
-    c.deref_mut.ensures.value)
+    rw (
+      ← c.self.view_is,
+      c.in-Some.ensures.rest,
+      with_items_is c.self.inside.disks c.work.new.disks len,
+      c.work.ensures.disks,
+      c.deref_mut.ensures.value,
+    )
     (executed_leaves (the_view c.self.inside) _ c.args.queue c.args.number c.args.payload.now
     c.in-Some.command c.self.invariant (sym c.in-Some.ensures.command) asked)

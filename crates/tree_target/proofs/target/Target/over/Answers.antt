@@ -31,6 +31,10 @@ invariant_of-result c =
     }
 
 pub returns-clause-stands : goal.returns-clause-stands
-returns-clause-stands c = rw (c.in_ok-controllers.ensures, c.in_ok-disks.ensures,
-    c.in_ok-bindings.ensures, c.in_ok-held.ensures.items)
+returns-clause-stands c = rw (
+  c.in_ok-controllers.ensures,
+  c.in_ok-disks.ensures,
+  c.in_ok-bindings.ensures,
+  c.in_ok-held.ensures.items,
+)
     (start_stands c.args.tree c.args.lines.now c.args.ports.now)
