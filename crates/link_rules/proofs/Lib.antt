@@ -1,0 +1,9 @@
+pub mod Again
+pub mod Finding
+pub mod Laws
+pub mod Maps
+pub mod Numbers
+pub mod Parts
+pub mod Saying
+pub mod Tells
+pub mod Told
