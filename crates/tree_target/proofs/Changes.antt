@@ -10,9 +10,14 @@ use Rattle.configfs_tree.specs.declared.edits.Change.{Change}
 use Rattle.configfs_tree.specs.Outcome.{Outcome, Refuses, Accepts}
 use Rattle.configfs_tree.specs.Told.{Tells}
 use Rattle.configfs_tree.specs.Standing.{IsStanding}
-use Rattle.configfs_tree.proofs.Holds.{Holds, accepted}
+use Rattle.configfs_tree.proofs.Holds.{Holds, accepted, holds_row, holds_last, holds_if_subsystem, holds_if_port}
 use Rattle.configfs_tree.proofs.TellsTable.{edit_tells}
 use Rattle.configfs_tree.proofs.StaysTable.{StaysBy, edit_stays}
+use Rattle.link_rules.specs.declared.edits.Edit.TheVariants as edit
+use Rattle.link_rules.specs.declared.edits.LinkEdit.{LinkEdit}
+use Rattle.link_rules.specs.declared.edits.LinkEdit.TheVariants as link
+use Rattle.link_rules.specs.Table.{allow_host, disallow_host, link_subsystem, unlink_subsystem, link_outcome}
+use Rattle.link_rules.proofs.Tells.{allowed_stays, linked_stays}
 use Rattle.tree_target.specs.declared.calls.Command.{Command}
 use Rattle.tree_target.specs.Edits.{Edit, outcome}
 use Rattle.tree_target.specs.Model.{Call, Submit, Execute, Poll, Control, AnEdit, DrainEnd, Binding, Target, caller_of, binding_in, binding_at, is_command, held_at}
@@ -67,6 +72,33 @@ edit_fixed t (Refuses errno) tells off = refl
 edit_fixed t (Accepts u c) tells off =
     ap (fixed_with t) (unpublished_same t.tree u c (accepted u c tells) off)
 
+-- an edit of a link that is accepted is published
+abbrev Published : Outcome → Type 0
+Published o = Holds (λ u c. c.published ≡ true) o
+
+link_published : (t : Configuration) (e : LinkEdit) → Published (link_outcome t e)
+unfolding allow_host disallow_host link_subsystem unlink_subsystem
+link_published t (link.AllowHost sub host) = holds_if_subsystem _ _ (λ s f. holds_row _ _ _ _
+    (λ _. holds_row _ _ _ _ (λ _. holds_last _ _ _ _ (λ _. refl))))
+link_published t (link.DisallowHost sub host) = holds_if_subsystem _ _ (λ s f. holds_row _ _ _ _
+    (λ _. holds_last _ _ _ _ (λ _. refl)))
+link_published t (link.LinkSubsystem id sub) = holds_if_port _ _ (λ p f. holds_if_subsystem _ _
+    (λ s _. holds_row _ _ _ _ (λ _. holds_last _ _ _ _ (λ _. refl))))
+link_published t (link.UnlinkSubsystem id sub) = holds_if_port _ _ (λ p f. holds_if_subsystem _ _
+    (λ s _. holds_last _ _ _ _ (λ _. refl)))
+
+link_fixed : (t : Target) (o : Outcome) → Published o → is_published_edit o ≡ false
+    → fixed (after_edit t o) ≡ fixed t
+link_fixed t (Refuses errno) on off = refl
+link_fixed t (Accepts u c) on off = absurd (both_ways c.published off (accepted u c on))
+
+all_fixed : (t : Target) (e : Edit) → IsStanding t.tree → is_published_edit (outcome t.tree e) ≡ false
+    → fixed (after_edit t (outcome t.tree e)) ≡ fixed t
+all_fixed t (edit.Folder e) h off =
+    edit_fixed t (outcome t.tree (edit.Folder e)) (edit_tells t.tree e h.placed) off
+all_fixed t (edit.Link e) h off =
+    link_fixed t (outcome t.tree (edit.Link e)) (link_published t.tree e) off
+
 abbrev settled : Target → Settings → Fixed
 settled t s = record { settings = s; controllers = t.controllers }
 
@@ -81,8 +113,7 @@ unpublished_leave t (Execute queue number payload) h off =
     (execute_desk t queue number payload (held_at t queue number))
 unpublished_leave t (Poll queue) h off = refl
 unpublished_leave t (Control queue number e payload) h off = refl
-unpublished_leave t (AnEdit line e) h off =
-    edit_fixed t (outcome t.tree e) (edit_tells t.tree e h.placed) off
+unpublished_leave t (AnEdit line e) h off = all_fixed t e h off
 unpublished_leave t (DrainEnd line sub nsid) h off =
     ap (settled t) (drained_settings t.tree sub nsid)
 
@@ -137,12 +168,27 @@ plain_at_desk t u line e h same off = unpublished_leave u (AnEdit line e) h
     (published_by_tree t u line e (ap (λ (d : Desk). d.tree) same) ∙ off)
 
 -- ---- attached rows
+link_stays : (t : Configuration) (e : LinkEdit) → StaysBy t (link_outcome t e)
+unfolding allow_host disallow_host link_subsystem unlink_subsystem
+link_stays t (link.AllowHost sub host) = holds_if_subsystem _ _ (λ s f. holds_row _ _ _ _ (λ _.
+    holds_row _ _ _ _ (λ _. holds_last _ _ _ _ (λ _. allowed_stays t sub host true s f))))
+link_stays t (link.DisallowHost sub host) = holds_if_subsystem _ _ (λ s f. holds_row _ _ _ _
+    (λ _. holds_last _ _ _ _ (λ _. allowed_stays t sub host false s f)))
+link_stays t (link.LinkSubsystem id sub) = holds_if_port _ _ (λ p f. holds_if_subsystem _ _
+    (λ s _. holds_row _ _ _ _ (λ _. holds_last _ _ _ _ (λ _. linked_stays t id sub true p f))))
+link_stays t (link.UnlinkSubsystem id sub) = holds_if_port _ _ (λ p f. holds_if_subsystem _ _
+    (λ s _. holds_last _ _ _ _ (λ _. linked_stays t id sub false p f)))
+
+all_stay : (t : Configuration) (e : Edit) → StaysBy t (outcome t e)
+all_stay t (edit.Folder e) = edit_stays t e
+all_stay t (edit.Link e) = link_stays t e
+
 left_by : (t : Configuration) (o : Outcome) → StaysBy t o → LeavesAttached t o
 left_by t (Refuses errno) h = tt
 left_by t (Accepts u change) h = accepted u change h
 
 pub edits_leave : (t : Configuration) (e : Edit) → LeavesAttached t (outcome t e)
-edits_leave t e = left_by t (outcome t e) (edit_stays t e)
+edits_leave t e = left_by t (outcome t e) (all_stay t e)
 
 -- ---- bindings
 submit_bindings : (t : Target) (queue number cid : ℕ) (a : Admission)

@@ -26,17 +26,20 @@ use Rattle.configfs_tree.specs.declared.edits.Attr.{Attr}
 use Rattle.configfs_tree.specs.declared.edits.Attr.TheVariants as attr
 use Rattle.configfs_tree.specs.declared.edits.Folder.{Folder}
 use Rattle.configfs_tree.specs.declared.edits.Folder.TheVariants as folder
-use Rattle.configfs_tree.specs.declared.edits.FolderEdit.{FolderEdit}
-use Rattle.configfs_tree.specs.declared.edits.FolderEdit.TheVariants as edit
+use Rattle.configfs_tree.specs.declared.edits.FolderEdit.TheVariants as make
+use Rattle.link_rules.specs.declared.edits.Edit.TheVariants as edit
+use Rattle.link_rules.specs.declared.edits.LinkEdit.{LinkEdit}
+use Rattle.link_rules.specs.declared.edits.LinkEdit.TheVariants as link
+use Rattle.link_rules.specs.Table.{allow_host, disallow_host, link_subsystem, unlink_subsystem, link_outcome}
 use Rattle.configfs_tree.specs.Asked.{path_names_disk, path_is_held}
 use Rattle.configfs_tree.specs.Drained.{freed_path, freed_by, freed_in, drained}
 use Rattle.configfs_tree.specs.Outcome.{Outcome, Refuses, Accepts}
 use Rattle.configfs_tree.specs.Phases.{phase_at}
 use Rattle.configfs_tree.specs.Standing.{IsStanding}
-use Rattle.configfs_tree.specs.Table.{mkdir_host, mkdir_subsystem, mkdir_namespace, mkdir_port, mkdir_ana_group, rmdir_host, rmdir_subsystem, rmdir_namespace, rmdir_port, rmdir_ana_group, set_attr_allow_any_host, set_attr_serial, set_attr_model, set_device_path, set_identifier, put_group_of, set_ana_grpid, disabled, enabled, set_enable, set_address, set_addr_trtype, set_addr_adrfam, set_addr_treq, set_addr_traddr, set_addr_trsvcid, put_state, set_ana_state, mkdir, rmdir, set_of_subsystem, set_of_namespace, set_of_port, set_of_group, set as set_outcome, edit_outcome}
+use Rattle.configfs_tree.specs.Table.{mkdir_host, mkdir_subsystem, mkdir_namespace, mkdir_port, mkdir_ana_group, rmdir_host, rmdir_subsystem, rmdir_namespace, rmdir_port, rmdir_ana_group, set_attr_allow_any_host, set_attr_serial, set_attr_model, set_device_path, set_identifier, put_group_of, set_ana_grpid, disabled, enabled, set_enable, set_address, set_addr_trtype, set_addr_adrfam, set_addr_treq, set_addr_traddr, set_addr_trsvcid, put_state, set_ana_state, mkdir, rmdir, set_of_subsystem, set_of_namespace, set_of_port, set_of_group, set as set_outcome}
 use Rattle.configfs_tree.proofs.Holds.{Holds, accepted, refuses, holds_row, holds_end, holds_last, holds_either, holds_unless, holds_if_subsystem, holds_if_namespace, holds_if_port, holds_if_group, holds_parsed}
 use Rattle.tree_target.specs.declared.calls.Command.{Command}
-use Rattle.tree_target.specs.Edits.{outcome}
+use Rattle.tree_target.specs.Edits.{Edit, outcome}
 use Rattle.tree_target.specs.Model.{Call, Submit, Execute, Poll, Control, AnEdit, DrainEnd, Target, held_at}
 use Rattle.tree_target.specs.Views.{space_in, subsystem_named}
 use Rattle.tree_target.specs.Admission.{Admission, admission}
@@ -220,10 +223,22 @@ k_set t (folder.Namespace sub nsid) a value = k_namespace t sub nsid a value
 k_set t (folder.Port id) a value = k_port t id a value
 k_set t (folder.AnaGroup id group) a value = k_ana_group t id group a value
 
-edit_keeps : (t : Configuration) (e : FolderEdit) → KeepsBy t (edit_outcome t e)
-edit_keeps t (edit.Mkdir f) = k_mkdir t f
-edit_keeps t (edit.Rmdir f) = k_rmdir t f
-edit_keeps t (edit.Set f a value) = k_set t f a value
+k_link : (t : Configuration) (e : LinkEdit) → KeepsBy t (link_outcome t e)
+unfolding allow_host disallow_host link_subsystem unlink_subsystem
+k_link t (link.AllowHost sub host) = holds_if_subsystem _ _ (λ s _. holds_row _ _ _ _ (λ _.
+    holds_row _ _ _ _ (λ _. holds_last _ _ _ _ (λ _ i h e. e))))
+k_link t (link.DisallowHost sub host) = holds_if_subsystem _ _ (λ s _. holds_row _ _ _ _ (λ _.
+    holds_last _ _ _ _ (λ _ i h e. e)))
+k_link t (link.LinkSubsystem id sub) = holds_if_port _ _ (λ p _. holds_if_subsystem _ _ (λ s _.
+    holds_row _ _ _ _ (λ _. holds_last _ _ _ _ (λ _ i h e. e))))
+k_link t (link.UnlinkSubsystem id sub) = holds_if_port _ _ (λ p _. holds_if_subsystem _ _ (λ s _.
+    holds_last _ _ _ _ (λ _ i h e. e)))
+
+edit_keeps : (t : Configuration) (e : Edit) → KeepsBy t (outcome t e)
+edit_keeps t (edit.Folder (make.Mkdir f)) = k_mkdir t f
+edit_keeps t (edit.Folder (make.Rmdir f)) = k_rmdir t f
+edit_keeps t (edit.Folder (make.Set f a value)) = k_set t f a value
+edit_keeps t (edit.Link e) = k_link t e
 
 after_keeps : (t : Target) (o : Outcome) → KeepsBy t.tree o → Keeps t.tree (after_edit t o).tree
 after_keeps t (Refuses errno) k i h e = e

@@ -5,18 +5,17 @@ use Rattle.configfs_tree.specs.declared.edits.Attr.{Attr}
 use Rattle.configfs_tree.specs.declared.edits.Attr.TheVariants as attr
 use Rattle.configfs_tree.specs.declared.edits.Folder.{Folder}
 use Rattle.configfs_tree.specs.declared.edits.Folder.TheVariants as folder
-use Rattle.configfs_tree.specs.declared.edits.FolderEdit.{FolderEdit}
-use Rattle.configfs_tree.specs.declared.edits.FolderEdit.TheVariants as edit
+use Rattle.configfs_tree.specs.declared.edits.FolderEdit.TheVariants as make
 use Rattle.configfs_tree.specs.declared.configuration.Configuration.{Configuration}
-use Rattle.configfs_tree.specs.Asked.{is_fitting}
 use Rattle.configfs_tree.specs.Outcome.{Outcome}
-use Rattle.configfs_tree.specs.Table.{edit_outcome}
+use Rattle.link_rules.specs.declared.edits.Edit.{Edit as LinkOrFolder}
+use Rattle.link_rules.specs.declared.edits.Edit.TheVariants as edit
+use Rattle.link_rules.specs.Table.{edit_outcome, is_fitting}
 use Rattle.tree_target.specs.declared.edits.Space.{Space}
 
--- an edit of the configuration: of a folder or one of its attributes. Edits of links have their
--- place here
+-- an edit of the configuration: of a folder or one of its attributes, or of a link
 abbrev pub Edit : Type 0
-Edit = FolderEdit
+Edit = LinkOrFolder
 
 -- what an edit comes to, by the table of edits
 abbrev pub outcome : Configuration → Edit → Outcome
@@ -38,5 +37,5 @@ disables_of f a value = None
 
 -- the namespace whose `enable` an edit sets to `0`
 abbrev pub disables : Edit → Option Space
-disables (edit.Set f a value) = disables_of f a value
+disables (edit.Folder (make.Set f a value)) = disables_of f a value
 disables e = None

@@ -1,5 +1,5 @@
 // The held commands, and the work of one on its disk.
-ghost use Rattle.std.specs.Prelude.{◌≡◌, ◌<◌, ◌≤◌, ◌+◌, find, position, length, map, slice_get, is_some, IfSome};
+ghost use Rattle.std.specs.Prelude.{◌≡◌, ◌<◌, ◌≤◌, ◌+◌, find, position, length, map, slice_get, is_some, IfSome, IsTrue};
 ghost use Rattle.std.specs.List.{list_any};
 ghost use Rattle.std.specs.Vec.{vec_capacity};
 ghost use Rattle.mem_bdev.specs.Texts.{HasRoom, appended};
@@ -98,6 +98,23 @@ pub(crate) fn given(disks: &[Disk], job: &Job) -> u32
 {
     let number = usize::from(number_of_disk(job));
     given_len(job, &disks[number])
+}
+
+// Whether data of this length are what a job takes, on the disk with its number.
+pub(crate) fn takes(disks: &[Disk], job: &Job, len: usize) -> bool
+    ensures { IsTrue result → HasDataOn job.now (slice_get disks.now (disk_of job.now)) len }
+{
+    match *job {
+        Job::Write {
+            disk,
+            lba: _,
+            count,
+        } => match disks.get(usize::from(disk)) {
+            None => true,
+            Some(d) => len == count as usize * d.block_size(),
+        },
+        Job::Read { .. } | Job::Zero { .. } | Job::Flush { .. } => true,
+    }
 }
 
 // Does a job on the disk with its number, and appends what it reads.

@@ -14,7 +14,8 @@ use crate::commands::{find_command, is_free};
 use crate::edits::disables;
 use crate::target::Target;
 use configfs_rows::{Nqn, Phase};
-use configfs_tree::{Change, FolderEdit, Refused, Tree};
+use configfs_tree::{Change, Refused, Tree};
+use link_rules::{Edit, apply};
 use std::alloc::{AllocError, Global};
 
 // What an edit replies.
@@ -57,7 +58,7 @@ impl Target {
     }
 
     // Whether the namespace that an edit disables may end its drain.
-    fn ends(&self, e: &FolderEdit) -> bool
+    fn ends(&self, e: &Edit) -> bool
         ensures { result ≡ ends self.now (disables e.now) }
     {
         match disables(e) {
@@ -68,7 +69,7 @@ impl Target {
 
     /// Whether a call is lawful here. Of the end of a drain `e` is the edit of its line, of every
     /// other call it is `None`. Takes no memory.
-    pub fn lawful(&self, call: &Call, e: Option<&FolderEdit>) -> bool
+    pub fn lawful(&self, call: &Call, e: Option<&Edit>) -> bool
         ensures lawful { IsLawfulAs self.now call.now (option_copied e.entry) result }
         ensures ends_nothing { EndsNothing call.now (option_copied e.entry) result }
     {
@@ -85,7 +86,7 @@ impl Target {
 
     /// Whether an edit begins a drain: it sets to `0` the `enable` of a namespace that is enabled
     /// now. Takes no memory.
-    pub fn drains(&self, e: &FolderEdit) -> bool
+    pub fn drains(&self, e: &Edit) -> bool
         ensures { result ≡ begins self.now.tree (disables e.now) }
     {
         match disables(e) {
@@ -99,7 +100,7 @@ impl Target {
 
     /// Makes an edit of the configuration, or refuses it with its errno and changes nothing. On want
     /// of memory the target is as before.
-    pub fn edit(&mut self, alloc: Global, line: u32, e: &FolderEdit) -> Result<Reply, AllocError>
+    pub fn edit(&mut self, alloc: Global, line: u32, e: &Edit) -> Result<Reply, AllocError>
         requires { IsTrue (is_well_formed e.now) }
         ensures does { IfOk result (λ reply. Simulates self.old (AnEdit line e.now) reply []
             self.new) }
@@ -107,7 +108,7 @@ impl Target {
         ensures same { OnErr result (self.new ≡ self.old) }
     {
         let _line = line;
-        replied(self.tree.apply_folder(alloc, e))
+        replied(apply(alloc, &mut self.tree, e))
     }
 
     /// Ends the drain of a namespace: its disk is free again. Takes no memory.

@@ -3,6 +3,7 @@ ghost use Rattle.tree_target.specs.Edits.{disables, disables_of};
 
 use configfs_rows::Nqn;
 use configfs_tree::{Attr, Folder, FolderEdit};
+use link_rules::Edit;
 
 /// A namespace, by the NQN of its subsystem and its NSID.
 #[derive(Drop)]
@@ -33,11 +34,14 @@ fn disabled_by(folder: &Folder, attr: Attr, value: &[u8]) -> Option<Space>
 
 /// The namespace whose `enable` an edit sets to `0`, if it is such an edit. Where that namespace is
 /// enabled the edit begins its drain. Takes no memory.
-pub fn disables(e: &FolderEdit) -> Option<Space>
+pub fn disables(e: &Edit) -> Option<Space>
     ensures { result ≡ disables e.now }
 {
     match e {
-        FolderEdit::Mkdir(_) | FolderEdit::Rmdir(_) => None,
-        FolderEdit::Set(folder, attr, value) => disabled_by(folder, *attr, value.as_bytes()),
+        Edit::Folder(FolderEdit::Set(folder, attr, value)) => {
+            disabled_by(folder, *attr, value.as_bytes())
+        }
+        Edit::Folder(FolderEdit::Mkdir(_)) | Edit::Folder(FolderEdit::Rmdir(_)) | Edit::Link(_) =>
+            None,
     }
 }

@@ -4,7 +4,8 @@ ghost use Rattle.mem_bdev.specs.Blocks.{IsShape};
 ghost use Rattle.tree_target.specs.Edits.{is_well_formed};
 ghost use Rattle.tree_target.specs.Loads.{blank_of, code_unconnected, load_from, LoadsTree};
 
-use configfs_tree::{Errno, FolderEdit, Refused, Tree};
+use configfs_tree::{Errno, Refused, Tree};
+use link_rules::{Edit, apply};
 use mem_bdev::{Disk, DiskLine};
 use sqe_cqe::Binding;
 use std::alloc::{AllocError, Global};
@@ -49,14 +50,14 @@ pub(crate) fn unconnected(alloc: Global, ports: &[u16]) -> Result<Vec<Binding>, 
 pub(crate) fn apply_edits(
     alloc: Global,
     tree: Tree,
-    edits: &[FolderEdit],
+    edits: &[Edit],
 ) -> Result<Tree, LoadError>
     requires { All (λ e. IsTrue (is_well_formed e)) edits.now }
     ensures { LoadsTree (load_from 1 tree edits.now) result }
 {
     let mut made = tree;
     for (i, e) in edits.iter().enumerate() {
-        match made.apply_folder(alloc, e) {
+        match apply(alloc, &mut made, e) {
             Ok(_) => {}
             Err(Refused::Errno(errno)) => {
                 return Err(LoadError::Refused {

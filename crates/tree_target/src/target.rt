@@ -5,14 +5,15 @@ ghost use Rattle.mem_bdev.specs.declared.limits.TheConstants.{MAX_TRANSFER};
 ghost use Rattle.tree_target.specs.declared.start.TheConstants.{MAX_QUEUES};
 ghost use Rattle.tree_target.specs.Edits.{is_well_formed};
 ghost use Rattle.tree_target.specs.Loads.{LoadsTarget, start_of, loaded};
-ghost use Rattle.tree_target.specs.Kept.{HasQueue, IsIdle, binding_in, bound_in, held_len, held_reply, qid_from};
+ghost use Rattle.tree_target.specs.Kept.{HasHeldData, HasQueue, IsIdle, binding_in, bound_in, held_len, held_reply, qid_from};
 ghost use Rattle.tree_target.specs.Stands.{StandsFor};
 ghost use Rattle.tree_target.specs.Kept.{answered};
 
 use crate::calls::{Command, Reply};
-use crate::commands::{command_of_queue, find_command, given};
+use crate::commands::{command_of_queue, find_command, given, takes};
 use crate::start::{LoadError, MAX_QUEUES, apply_edits, blank_disks, unconnected};
-use configfs_tree::{FolderEdit, Tree};
+use configfs_tree::Tree;
+use link_rules::Edit;
 use mem_bdev::{Disk, DiskLine};
 use sqe_cqe::{Binding, Controllers, Cqe, SUCCESS};
 use std::alloc::{AllocError, Global};
@@ -92,7 +93,7 @@ impl Target {
     pub fn load(
         alloc: Global,
         lines: &[DiskLine],
-        edits: &[FolderEdit],
+        edits: &[Edit],
         ports: &[u16],
     ) -> Result<Self, LoadError>
         requires few_queues { length ports.now ≤ MAX_QUEUES }
@@ -166,6 +167,17 @@ impl Target {
         match find_command(&self.held, queue, number) {
             None => Reply::NoEvent,
             Some(command) => complete(self.qid(queue), command.cid, SUCCESS),
+        }
+    }
+
+    /// Whether data of this length are what the execute of this capsule's held command takes: those of
+    /// a Write's blocks, and any of a command without data.
+    pub fn takes(&self, queue: u32, number: u32, len: usize) -> bool
+        ensures { IsTrue result → HasHeldData self.now queue number len }
+    {
+        match find_command(&self.held, queue, number) {
+            None => true,
+            Some(command) => takes(&self.disks, &command.job, len),
         }
     }
 

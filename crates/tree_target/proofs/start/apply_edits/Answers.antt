@@ -7,5 +7,5 @@ pub loop-i-preserved : goal.loop-i-preserved
 loop-i-preserved c =
     let lt : c.loop-i.i < length c.args.edits.now = omega arith in
     loads_next c.args.edits.now c.loop-i.i c.index-edits-i.result c.loop-i.made
-    c.apply_folder.new.self c.in-Ok.field-0 (load_from 1 c.args.tree c.args.edits.now) lt
+    c.apply.new.t c.in-Ok.field-0 (load_from 1 c.args.tree c.args.edits.now) lt
     c.index-edits-i.is c.loop-i.invariant c.in-Ok.ensures.gives
