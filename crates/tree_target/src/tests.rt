@@ -41,12 +41,20 @@ fn edit(rt: &impl Abort, alloc: Global, target: &mut Target, e: &Edit, reply: Re
     assert_eq!(rt; got.expect(rt, "memory"), reply);
 }
 
+// Ends the drain of namespace 1, which may end.
+fn end_drain(rt: &impl Abort, target: &mut Target) {
+    let sub = name(rt);
+    assert!(rt; target.may_end(&sub, 1));
+    assert_eq!(rt; target.end_drain(1, &sub, 1), Reply::Ended);
+}
+
 // A target over one disk, with one queue and no configuration.
 fn empty(rt: &impl Abort, alloc: Global) -> Target {
     let line = line(rt, alloc);
     assert!(rt; line.is_shape());
-    assert!(rt; may_be_disks(&[line]));
-    let loaded = Target::load(alloc, &[line], &[], &[1]);
+    let lines = [line];
+    assert!(rt; may_be_disks(&lines));
+    let loaded = Target::load(alloc, &lines, &[], &[1]);
     loaded.expect(rt, "loaded")
 }
 
@@ -75,8 +83,7 @@ fn edits_are_made_or_refused(rt: HostRuntime) -> Result<(), Fail> {
     let end = Call::DrainEnd { line: 1 };
     assert!(rt; !target.lawful(&end, Some(&on)));
     assert!(rt; target.lawful(&end, Some(&off)));
-    assert!(rt; target.may_end(&name(&rt), 1));
-    assert_eq!(rt; target.end_drain(1, &name(&rt), 1), Reply::Ended);
+    end_drain(&rt, &mut target);
     assert!(rt; !target.lawful(&end, Some(&off)));
     edit(&rt, alloc, &mut target, &on, Reply::Accepted);
     Ok(())
@@ -103,14 +110,15 @@ fn the_first_refused_edit_of_a_configuration_is_named(rt: HostRuntime) -> Result
     let alloc = rt.alloc();
     let line = line(&rt, alloc);
     assert!(rt; line.is_shape());
-    assert!(rt; may_be_disks(&[line]));
+    let lines = [line];
+    assert!(rt; may_be_disks(&lines));
     let sub = mkdir(Folder::Subsystem(name(&rt)));
     let again = mkdir(Folder::Subsystem(name(&rt)));
     let port = mkdir(Folder::Port(1));
     assert!(rt; sub.is_fitting());
     assert!(rt; again.is_fitting());
     assert!(rt; port.is_fitting());
-    match Target::load(alloc, &[line], &[port, sub, again], &[1]) {
+    match Target::load(alloc, &lines, &[port, sub, again], &[1]) {
         Err(LoadError::Refused { edit, errno }) => {
             assert_eq!(rt; edit, 3);
             assert_eq!(rt; errno, Errno::EEXIST);
@@ -176,7 +184,8 @@ fn connect(rt: &impl Abort, alloc: Global, target: &mut Target) {
 fn configured(rt: &impl Abort, alloc: Global) -> Target {
     let line = line(rt, alloc);
     assert!(rt; line.is_shape());
-    assert!(rt; may_be_disks(&[line]));
+    let lines = [line];
+    assert!(rt; may_be_disks(&lines));
     let edits = [
         mkdir(Folder::Subsystem(name(rt))),
         mkdir(Folder::Namespace(name(rt), 1)),
@@ -184,7 +193,7 @@ fn configured(rt: &impl Abort, alloc: Global) -> Target {
         set_space(rt, alloc, Attr::DevicePath, b"/dev/ram0"),
         set_space(rt, alloc, Attr::Enable, b"1"),
     ];
-    let loaded = Target::load(alloc, &[line], &[], &[1, 1]);
+    let loaded = Target::load(alloc, &lines, &[], &[1, 1]);
     let mut target = loaded.expect(rt, "loaded");
     for e in &edits {
         edit(rt, alloc, &mut target, e, Reply::Accepted);
@@ -230,7 +239,6 @@ fn a_drain_ends_after_the_last_held_command(rt: HostRuntime) -> Result<(), Fail>
     status_is(&rt, &reply, 5, 1, 0x0600);
     finish(&rt, alloc, &mut target, 2, 4, &[7; 512]);
     assert!(rt; target.lawful(&end, Some(&off)));
-    assert!(rt; target.may_end(&name(&rt), 1));
-    assert_eq!(rt; target.end_drain(1, &name(&rt), 1), Reply::Ended);
+    end_drain(&rt, &mut target);
     Ok(())
 }
