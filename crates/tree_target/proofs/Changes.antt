@@ -92,7 +92,8 @@ link_fixed : (t : Target) (o : Outcome) → Published o → is_published_edit o 
 link_fixed t (Refuses errno) on off = refl
 link_fixed t (Accepts u c) on off = absurd (both_ways c.published off (accepted u c on))
 
-all_fixed : (t : Target) (e : Edit) → IsStanding t.tree → is_published_edit (outcome t.tree e) ≡ false
+all_fixed : (t : Target) (e : Edit) → IsStanding t.tree
+    → is_published_edit (outcome t.tree e) ≡ false
     → fixed (after_edit t (outcome t.tree e)) ≡ fixed t
 all_fixed t (edit.Folder e) h off =
     edit_fixed t (outcome t.tree (edit.Folder e)) (edit_tells t.tree e h.placed) off

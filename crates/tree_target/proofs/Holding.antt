@@ -226,7 +226,8 @@ reply_held t queue cid (HoldsJob job) disk is = refl
 pub held_reply : (t : Target) (call : Call) (disk : ℕ) → held_disk t call ≡ Some disk
     → reply_of t call ≡ replies.Held
 unfolding held_disk reply_of
-held_reply t (Submit queue number e) disk is = reply_held t queue e.cid (admission t queue e) disk is
+held_reply t (Submit queue number e) disk is = reply_held t queue e.cid (admission t queue e) disk
+    is
 held_reply t (Execute queue number payload) disk is = absurd (no_number disk is)
 held_reply t (Poll queue) disk is = absurd (no_number disk is)
 held_reply t (Control queue number e payload) disk is = absurd (no_number disk is)

@@ -9,3 +9,4 @@ pub mod Executing
 pub mod Changes
 pub mod Holding
 pub mod Lives
+pub mod Simples

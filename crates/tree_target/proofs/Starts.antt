@@ -41,7 +41,8 @@ loads_next edits i e t u change l lt is so_far g =
     ∙ ap (λ (n : ℕ). load_from (i + 1 + 1) u (drop n edits)) (sym (add-one i))))
 
 pub loads_target : (l : Loaded) (t u : Configuration) (k : Kept) (lines : List DiskLine)
-    (ports : List ℕ) → l ≡ LoadedTree t → u ≡ with_no_changes t → StandsFor k (start_of u lines ports)
+    (ports : List ℕ) → l ≡ LoadedTree t → u ≡ with_no_changes t
+    → StandsFor k (start_of u lines ports)
     → LoadsTarget l lines ports (Ok k)
 loads_target l t u k lines ports is same st = record {
   tree = t;

@@ -12,3 +12,4 @@ pub mod Kept
 pub mod Stands
 pub mod Loads
 pub mod Lawful
+pub mod Simple

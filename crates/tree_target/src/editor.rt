@@ -98,8 +98,8 @@ impl Target {
         }
     }
 
-    /// Makes an edit of the configuration, or refuses it with its errno and changes nothing. On want
-    /// of memory the target is as before.
+    /// Makes an edit of the configuration, or refuses it with its errno and changes nothing. On
+    /// want of memory the target is as before.
     pub fn edit(&mut self, alloc: Global, line: u32, e: &Edit) -> Result<Reply, AllocError>
         requires { IsTrue (is_well_formed e.now) }
         ensures does { IfOk result (λ reply. Simulates self.old (AnEdit line e.now) reply []

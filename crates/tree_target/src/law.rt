@@ -2,6 +2,7 @@
 ghost use Rattle.tree_target.specs.Legal.{LawfulCallsAreLegal};
 ghost use Rattle.tree_target.specs.Fixed.{UnpublishedLeaveFixed, QueuesLeaveDesk, PlainAtDesk, EditsDependOnTheTree, EditsAreAsComputed, EditsLeaveAttached};
 ghost use Rattle.tree_target.specs.Held.{HeldChanges, HeldIsShown, HeldReplies, HeldKeepsHolder, BindingsAreOwn};
+ghost use Rattle.tree_target.specs.Simple.{SimpleStands};
 
 use io_commands::admitted_is_on_a_seen_disk;
 
@@ -67,4 +68,9 @@ pub fn held_keeps_holder()
 /// A queue's binding changes by its own calls alone.
 pub fn bindings_are_own()
     ensures { BindingsAreOwn }
+{}
+
+/// The start of a simple plan as a target keeps it, by positions, stands for that start by names.
+pub fn simple_stands()
+    ensures { SimpleStands }
 {}

@@ -25,7 +25,7 @@ pub use edits::{Space, disables};
 pub use law::{
     bindings_are_own, edits_are_as_computed, edits_depend_on_the_tree, edits_leave_attached,
     held_changes, held_is_shown, held_keeps_holder, held_replies, lawful_calls_are_legal,
-    plain_at_desk, queues_leave_desk, unpublished_leave_fixed,
+    plain_at_desk, queues_leave_desk, simple_stands, unpublished_leave_fixed,
 };
 pub use look::TreeLook;
 pub use start::{LoadError, MAX_QUEUES};

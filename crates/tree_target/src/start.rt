@@ -47,11 +47,7 @@ pub(crate) fn unconnected(alloc: Global, ports: &[u16]) -> Result<Vec<Binding>, 
 }
 
 // The tree after edits in their order, or the first that is refused.
-pub(crate) fn apply_edits(
-    alloc: Global,
-    tree: Tree,
-    edits: &[Edit],
-) -> Result<Tree, LoadError>
+pub(crate) fn apply_edits(alloc: Global, tree: Tree, edits: &[Edit]) -> Result<Tree, LoadError>
     requires { All (λ e. IsTrue (is_well_formed e)) edits.now }
     ensures { LoadsTree (load_from 1 tree edits.now) result }
 {

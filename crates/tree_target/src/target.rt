@@ -87,8 +87,8 @@ impl Target {
     }
 
     /// Loads a configuration: the edits in their order over the empty tree, with the counts of
-    /// changes at 0 after them. The first refused edit is named by its number, from 1. `ports` gives
-    /// the port of each queue, at most 31; the disks are at most 64 with differing paths
+    /// changes at 0 after them. The first refused edit is named by its number, from 1. `ports`
+    /// gives the port of each queue, at most 31; the disks are at most 64 with differing paths
     /// (`may_be_disks` tells). No queue is connected, and no command is held.
     pub fn load(
         alloc: Global,
@@ -170,8 +170,8 @@ impl Target {
         }
     }
 
-    /// Whether data of this length are what the execute of this capsule's held command takes: those of
-    /// a Write's blocks, and any of a command without data.
+    /// Whether data of this length are what the execute of this capsule's held command takes: those
+    /// of a Write's blocks, and any of a command without data.
     pub fn takes(&self, queue: u32, number: u32, len: usize) -> bool
         ensures { IsTrue result → HasHeldData self.now queue number len }
     {

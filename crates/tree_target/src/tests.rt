@@ -95,9 +95,21 @@ fn links_are_edits(rt: HostRuntime) -> Result<(), Fail> {
     let mut target = empty(&rt, alloc);
     let link = Edit::Link(LinkEdit::LinkSubsystem(1, name(&rt)));
     let trtype = set(&rt, alloc, Folder::Port(1), Attr::Trtype, b"loop");
-    edit(&rt, alloc, &mut target, &mkdir(Folder::Subsystem(name(&rt))), Reply::Accepted);
+    edit(
+        &rt,
+        alloc,
+        &mut target,
+        &mkdir(Folder::Subsystem(name(&rt))),
+        Reply::Accepted,
+    );
     edit(&rt, alloc, &mut target, &link, Reply::Errno(Errno::ENOENT));
-    edit(&rt, alloc, &mut target, &mkdir(Folder::Port(1)), Reply::Accepted);
+    edit(
+        &rt,
+        alloc,
+        &mut target,
+        &mkdir(Folder::Port(1)),
+        Reply::Accepted,
+    );
     edit(&rt, alloc, &mut target, &link, Reply::Errno(Errno::EINVAL));
     edit(&rt, alloc, &mut target, &trtype, Reply::Accepted);
     edit(&rt, alloc, &mut target, &link, Reply::Accepted);
@@ -162,7 +174,15 @@ fn a_queue_that_is_not_connected_is_refused(rt: HostRuntime) -> Result<(), Fail>
     let reply = target.control(1, 1, &entry(0x7f, 8), &[]);
     status_is(&rt, &reply, 8, 0, 0x8002);
     assert_eq!(rt; target.poll(1), Reply::NoEvent);
-    assert!(rt; !target.lawful(&Call::Execute { queue: 1, number: 0 }, None));
+    assert!(rt;
+        !target.lawful(
+            &Call::Execute {
+                queue: 1,
+                number: 0
+            },
+            None
+        )
+    );
     Ok(())
 }
 

@@ -7,7 +7,8 @@ use Rattle.tree_target.proofs.target.Target.end_drain.Goals as goal
 
 pub returns-clause-does : goal.returns-clause-does
 returns-clause-does c =
-    let may : IsTrue (may_end c.self.inside.tree c.self.inside.held.items c.args.sub.now c.args.nsid) =
+    let may : IsTrue (may_end c.self.inside.tree c.self.inside.held.items c.args.sub.now
+    c.args.nsid) =
     ap (λ (x : Kept). may_end x.tree x.held c.args.sub.now c.args.nsid) c.self.view_is
     ∙ c.requires in
     rw (← c.self.view_is, c.end_drain.ensures)

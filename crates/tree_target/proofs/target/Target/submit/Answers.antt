@@ -9,7 +9,8 @@ use Rattle.tree_target.proofs.target.Target.submit.Goals as goal
 pub unreachable-requires : goal.unreachable-requires
 unreachable-requires c =
     let k = the_view c.self.inside in
-    let queue = subst (λ (x : Kept). HasQueue x c.args.queue) (sym c.self.view_is) c.requires.queue in
+    let queue = subst (λ (x : Kept). HasQueue x c.args.queue) (sym c.self.view_is) c.requires.queue
+    in
     let idle = subst (λ (x : Kept). IsIdle x c.args.queue) (sym c.self.view_is) c.requires.idle in
     let room = held_room k _ c.args.queue c.args.number c.args.e.now.cid c.in-Run.job
     c.self.invariant queue idle in
@@ -19,7 +20,8 @@ unreachable-requires c =
 pub invariant_of-self : goal.invariant_of-self
 invariant_of-self c =
     let k = the_view c.self.inside in
-    let queue = subst (λ (x : Kept). HasQueue x c.args.queue) (sym c.self.view_is) c.requires.queue in
+    let queue = subst (λ (x : Kept). HasQueue x c.args.queue) (sym c.self.view_is) c.requires.queue
+    in
     let idle = subst (λ (x : Kept). IsIdle x c.args.queue) (sym c.self.view_is) c.requires.idle in
     let fits = subst (λ (x : Kept). AdmitsOn x.blocks c.args.e.now c.in-Run.job)
     (sym c.self.view_is) c.in-Run.ensures.fits in
