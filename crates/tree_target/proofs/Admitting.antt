@@ -1,6 +1,6 @@
 -- What a queue sees by positions is what it sees by names, and what it submits gets.
 use Rattle.std.proofs.Common.{◌≡◌, ℕ, zero, suc, ◌≤◌, ◌==◌, ◌&&◌, is_some, IsTrue, Bool, true, false, cond, List, [], ◌∷◌, ◌++◌, length, Option, Some, None, refl, sym, ap, subst, ◌∙◌, slice_get, arith}
-use Rattle.std.specs.List.{find, AllByRecursion}
+use Rattle.std.specs.List.{find}
 use Rattle.mem_bdev.specs.Blocks.{Blocks}
 use Rattle.mem_bdev.specs.declared.limits.TheConstants.{MAX_TRANSFER}
 use Rattle.sqe_cqe.specs.declared.sqe.Sqe.{Sqe}
@@ -15,7 +15,7 @@ use Rattle.io_commands.specs.declared.jobs.Job.{Job}
 use Rattle.io_commands.specs.declared.jobs.Job.TheVariants.{Read, Write, Zero, Flush}
 use Rattle.io_commands.specs.declared.jobs.Admit.{Admit}
 use Rattle.io_commands.specs.declared.jobs.Admit.TheVariants.{Refused, Run}
-use Rattle.io_commands.specs.Jobs.{disk_of, taken_len, given_len, FitsDisk, HasData}
+use Rattle.io_commands.specs.Jobs.{disk_of, taken_len, HasData}
 use Rattle.io_commands.specs.Admission.{io_admission, FitsSeen, IsJobOf}
 use Rattle.configfs_rows.specs.declared.namespaces.NamespaceRow.{NamespaceRow}
 use Rattle.configfs_rows.specs.declared.subsystems.SubsystemRow.{SubsystemRow}
@@ -31,9 +31,9 @@ use Rattle.tree_target.specs.Views.{space_in, row_of, on_blocks, on_disk, seen_o
 use Rattle.tree_target.specs.Looked.{tree_answers}
 use Rattle.tree_target.specs.Admission.{Holds, refused, of_admit, of_qid, of_bound, of_binding, admission}
 use Rattle.tree_target.specs.Steps.{reply_of, bytes_of, changed, submitted, bytes_submitted, after_submit, command_of}
-use Rattle.tree_target.specs.Kept.{Kept, HasQueue, IsKept, HoldsWell, IsNumbered, IsIdle, IsHolding, LeavesOthers, Fits, FitsOn, HasDataOn, HasDataOf, given_on, given_of, AdmitsOn, AdmitFits, bound_from, bound_in, qid_from, by_qid, by_bound, admission_by, answered, is_of}
+use Rattle.tree_target.specs.Kept.{Kept, HasQueue, IsKept, IsNumbered, IsIdle, IsHolding, LeavesOthers, Fits, FitsOn, HasDataOn, HasDataOf, given_on, given_of, AdmitsOn, AdmitFits, bound_from, bound_in, qid_from, by_qid, by_bound, admission_by, answered, is_of}
 use Rattle.tree_target.specs.Stands.{IsBound, IsBoundAs, AreBound, StandsFor, Simulates}
-use Rattle.tree_target.proofs.HeldList.{no_command, same_number, own_command, last_found, snoc_other, idle_command, all_snoc, single_snoc, room_for, eqb_apart, both_true, eqb_is}
+use Rattle.tree_target.proofs.HeldList.{own_command, last_found, snoc_other, idle_command, all_snoc, single_snoc, room_for, eqb_apart}
 use Rattle.tree_target.proofs.Simulating.{stands_after}
 
 no_row : (n : NamespaceRow) → None ≡ Some n → ⊥

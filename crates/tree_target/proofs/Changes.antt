@@ -1,9 +1,7 @@
 -- What calls change of a target.
-use Rattle.std.proofs.Common.{◌≡◌, ◌≢◌, ℕ, zero, suc, Bool, true, false, cond, IsTrue, List, [], ◌∷◌, ◌++◌, Option, Some, None, is_some, refl, sym, ap, subst, ◌∙◌}
-use Rattle.std.specs.List.{find}
+use Rattle.std.proofs.Common.{◌≡◌, ◌≢◌, ℕ, true, false, List, [], ◌∷◌, Option, Some, None, refl, sym, ap, ◌∙◌}
 use mathlib.Core.Logic.{⊎_elim}
 use Rattle.std.proofs.lemmas.Bool.{both_ways}
-use Rattle.sqe_cqe.specs.declared.sqe.Sqe.{Sqe}
 use Rattle.configfs_tree.specs.declared.configuration.Settings.{Settings}
 use Rattle.configfs_tree.specs.declared.configuration.Configuration.{Configuration}
 use Rattle.configfs_tree.specs.declared.edits.Change.{Change}
@@ -20,9 +18,9 @@ use Rattle.link_rules.specs.Table.{allow_host, disallow_host, link_subsystem, un
 use Rattle.link_rules.proofs.Tells.{allowed_stays, linked_stays}
 use Rattle.tree_target.specs.declared.calls.Command.{Command}
 use Rattle.tree_target.specs.Edits.{Edit, outcome}
-use Rattle.tree_target.specs.Model.{Call, Submit, Execute, Poll, Control, AnEdit, DrainEnd, Binding, Target, caller_of, binding_in, binding_at, is_command, held_at}
+use Rattle.tree_target.specs.Model.{Call, Submit, Execute, Poll, Control, AnEdit, DrainEnd, Binding, Target, caller_of, binding_in, binding_at, held_at}
 use Rattle.tree_target.specs.Admission.{Admission, Completes, Waits, Holds as HoldsJob, admission}
-use Rattle.tree_target.specs.Steps.{reply_of, changed, target_after, without, after_submit, after_execute, after_edit, edited}
+use Rattle.tree_target.specs.Steps.{reply_of, changed, target_after, after_submit, after_execute, after_edit, edited}
 use Rattle.tree_target.specs.Legal.{after}
 use Rattle.tree_target.specs.Fixed.{Fixed, fixed, Desk, desk, is_published, is_published_edit, is_editors, AreQueues, LeavesAttached}
 use Rattle.tree_target.proofs.Simulating.{drained_settings}

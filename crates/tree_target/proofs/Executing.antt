@@ -1,18 +1,18 @@
 -- The execute of a held command.
 use Rattle.std.proofs.Common.{◌≡◌, ℕ, ◌<◌, ◌≤◌, IsTrue, List, length, Option, Some, None, is_some, refl, sym, ap, subst, ◌∙◌, slice_get, arith}
-use Rattle.std.specs.List.{find, AllByRecursion}
+use Rattle.std.specs.List.{find}
 use Rattle.std.proofs.lemmas.Option.{slice_get_within}
 use Rattle.mem_bdev.specs.Blocks.{Blocks}
 use Rattle.mem_bdev.specs.declared.limits.TheConstants.{MAX_TRANSFER}
 use Rattle.sqe_cqe.specs.declared.codes.TheConstants.{SUCCESS}
 use Rattle.io_commands.specs.declared.jobs.Job.{Job}
-use Rattle.io_commands.specs.Jobs.{disk_of, given_len}
+use Rattle.io_commands.specs.Jobs.{disk_of}
 use Rattle.tree_target.specs.declared.calls.Command.{Command}
 use Rattle.tree_target.specs.Model.{Execute, Target, held_at, is_command}
 use Rattle.tree_target.specs.Steps.{reply_of, bytes_of, changed, executed, bytes_executed, read_of, without, worked, after_execute}
-use Rattle.tree_target.specs.Kept.{Kept, IsKept, IsIdle, IsHolding, IsNumbered, LeavesOthers, Fits, FitsOn, HasDataOn, HasDataOf, HasHeldData, given_on, given_of, bound_in, qid_from, answered, held_reply, held_bytes, held_len, command_at, reply_to, is_of}
+use Rattle.tree_target.specs.Kept.{Kept, IsKept, IsIdle, IsNumbered, LeavesOthers, Fits, FitsOn, HasDataOn, HasDataOf, HasHeldData, given_on, given_of, bound_in, qid_from, answered, held_reply, held_bytes, held_len, command_at, reply_to}
 use Rattle.tree_target.specs.Stands.{StandsFor, Does, Simulates}
-use Rattle.tree_target.proofs.HeldList.{no_command, all_without, all_along, single_without, found_has, idle_taken, others_found, others_idle}
+use Rattle.tree_target.proofs.HeldList.{all_without, all_along, single_without, found_has, idle_taken, others_found, others_idle}
 use Rattle.tree_target.proofs.Shapes.{shape_of, worked_shape, worked_len, fits_along, data_along, given_along}
 use Rattle.tree_target.proofs.Simulating.{stands_after}
 use Rattle.tree_target.proofs.Admitting.{qid_is}

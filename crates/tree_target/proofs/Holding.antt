@@ -21,7 +21,7 @@ use Rattle.tree_target.specs.Model.{Call, Submit, Execute, Poll, Control, AnEdit
 use Rattle.tree_target.specs.Views.{space_in, row_of, on_blocks, on_disk, seen_of, subsystem_named, view_at}
 use Rattle.tree_target.specs.Admission.{Admission, Completes, Waits, Holds as HoldsJob, of_admit, of_qid, of_bound, of_binding, admission}
 use Rattle.tree_target.specs.Steps.{reply_of, changed, target_after, without, after_submit, after_execute, after_edit, submitted, command_of}
-use Rattle.tree_target.specs.Held.{held_by, held_disk, AddsOne, TakesOne, HeldBy, HeldChange, IsShown}
+use Rattle.tree_target.specs.Held.{held_by, held_disk, TakesOne, HeldBy, HeldChange, IsShown}
 use Rattle.tree_target.proofs.HeldList.{no_command, some_is, both_true, eqb_is}
 
 -- ---- the list

@@ -1,5 +1,5 @@
 -- The calls of the program's target do what the model does.
-use Rattle.std.proofs.Common.{◌≡◌, ℕ, ◌&&◌, true, IsTrue, List, [], ◌∷◌, Option, Some, None, nat_lt, slice_index, refl, sym, ap, subst, ◌∙◌, Result, Ok, Err, IfOk, OnErr}
+use Rattle.std.proofs.Common.{◌≡◌, ℕ, IsTrue, List, [], ◌∷◌, Option, Some, None, nat_lt, slice_index, refl, sym, ap, subst, ◌∙◌, Result, Ok, Err, IfOk, OnErr}
 use Rattle.std.specs.FinMap as map
 use Rattle.sqe_cqe.specs.declared.controllers.Bound.{Bound as CodeBound}
 use Rattle.sqe_cqe.specs.declared.controllers.Binding.{Binding as CodeBinding}
@@ -14,7 +14,7 @@ use Rattle.configfs_rows.specs.declared.namespaces.NamespaceRow.{NamespaceRow}
 use Rattle.configfs_rows.specs.declared.subsystems.SubsystemRow.{SubsystemRow}
 use Rattle.configfs_tree.specs.Gives.{Gives}
 use Rattle.configfs_tree.specs.Drained.{freed_path, freed_by, freed_in, drained}
-use Rattle.configfs_tree.specs.Outcome.{Outcome, Refuses, Accepts}
+use Rattle.configfs_tree.specs.Outcome.{Refuses, Accepts}
 use Rattle.configfs_tree.specs.Stays.{is_subsystem_attached, is_port_attached, Stays}
 use Rattle.tree_target.specs.declared.calls.Command.{Command}
 use Rattle.tree_target.specs.declared.calls.Reply.TheVariants as replies

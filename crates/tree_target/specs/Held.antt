@@ -1,5 +1,5 @@
 -- How held commands and bindings change, and what is held on.
-use Rattle.std.specs.Prelude.{◌≡◌, ◌≢◌, ℕ, true, IsTrue, List, [], ◌∷◌, ◌++◌, Option, Some, None, is_some, slice_get}
+use Rattle.std.specs.Prelude.{◌≡◌, ◌≢◌, ℕ, true, IsTrue, List, [], ◌∷◌, ◌++◌, Option, Some, None, slice_get}
 use Rattle.std.specs.List.{list_any}
 use Rattle.io_commands.specs.Jobs.{disk_of}
 use Rattle.configfs_rows.specs.declared.disks.Holder.{Holder}

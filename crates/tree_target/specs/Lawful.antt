@@ -1,5 +1,5 @@
 -- Where a call is lawful of which only the numbers, and the edit of its line, are at hand.
-use Rattle.std.specs.Prelude.{◌≡◌, ℕ, Bool, false, List, Option, Some, None}
+use Rattle.std.specs.Prelude.{◌≡◌, Bool, false, Option, Some, None}
 use Rattle.configfs_tree.specs.declared.configuration.Configuration.{Configuration}
 use Rattle.configfs_tree.specs.Phases.{phase_at}
 use Rattle.tree_target.specs.declared.calls.Call as named

@@ -1,5 +1,5 @@
 -- What the code sees of a tree, by positions.
-use Rattle.std.specs.Prelude.{ℕ, List, is_some}
+use Rattle.std.specs.Prelude.{List, is_some}
 use Rattle.mem_bdev.specs.Blocks.{Blocks}
 use Rattle.sqe_cqe.specs.Answers.{Answers}
 use Rattle.sqe_cqe.specs.One.{plain_offers}

@@ -1,9 +1,6 @@
-use Rattle.std.proofs.Common.{◌≡◌, List, length, Some, ap, sym, subst, ◌∙◌, rules}
-use Rattle.std.specs.List.{find}
+use Rattle.std.proofs.Common.{◌≡◌, length, ap, sym, subst, ◌∙◌, rules}
 use Rattle.std.specs.Vec.{with_items}
 use Rattle.std.proofs.lemmas.List.{with_items_is}
-use Rattle.mem_bdev.specs.Blocks.{Blocks}
-use Rattle.tree_target.specs.Model.{is_command}
 use Rattle.tree_target.specs.Steps.{worked}
 use Rattle.tree_target.specs.Kept.{Kept, HasHeldData}
 use Rattle.tree_target.specs.contracts.target.Target.{the_view}

@@ -1,4 +1,4 @@
-use Rattle.std.proofs.Common.{◌≡◌, ◌≤◌, List, Some, ap, sym, ◌∙◌}
+use Rattle.std.proofs.Common.{◌≡◌, List, Some, ap, sym, ◌∙◌}
 use Rattle.std.specs.List.{find}
 use Rattle.tree_target.specs.declared.calls.Command.{Command}
 use Rattle.tree_target.specs.Model.{is_command}

@@ -1,4 +1,4 @@
-use Rattle.std.proofs.Common.{◌≡◌, ◌≤◌, suc, length, Some, ap, sym, subst, ◌∙◌, arith}
+use Rattle.std.proofs.Common.{◌≡◌, ap, sym, subst, ◌∙◌, arith}
 use Rattle.io_commands.specs.declared.jobs.Admit.TheVariants.{Run}
 use Rattle.configfs_tree.specs.Links.{SubsystemPositions, PortPositions}
 use Rattle.tree_target.specs.Kept.{Kept, HasQueue, IsIdle, AdmitsOn, admission_by}
