@@ -3,7 +3,7 @@
 use Rattle.std.specs.Prelude.{ℕ, List, [], ◌∷◌, ◌++◌, ◌-◌}
 use Rattle.sqe_cqe.specs.declared.controllers.Ctrl.{Ctrl}
 use Rattle.sqe_cqe.specs.declared.rows.Offers.{Offers}
-use Rattle.ana_groups.specs.declared.counts.TheConstants.{GROUPS}
+use Rattle.ana_groups.specs.declared.members.TheConstants.{GROUPS}
 use Rattle.async_events.specs.declared.waits.TheConstants.{MOST_WAITING}
 use Rattle.look_pages.specs.declared.walk.TheConstants.{PAGE}
 use Rattle.look_pages.specs.Tables.{Field, number, text, page_of}

@@ -1,1 +1,3 @@
-pub mod Members
+pub mod Reported
+pub mod Chains
+pub mod Linking

@@ -1,5 +1,5 @@
 -- The log page of ANA groups.
-use Rattle.std.specs.Prelude.{◌≡◌, ℕ, ◌+◌, ◌≤◌, nat_lt, ◌||◌, Bool, true, false, if◌then◌else◌, List, [], ◌∷◌, ◌++◌, length, slice_index}
+use Rattle.std.specs.Prelude.{ℕ, nat_lt, ◌||◌, Bool, if◌then◌else◌, List, [], ◌∷◌, ◌++◌, length}
 use Rattle.std.specs.List.{flat_map}
 use Rattle.sqe_cqe.specs.Fields.{spelled}
 use Rattle.sqe_cqe.specs.Answers.{View}
@@ -8,7 +8,7 @@ use Rattle.sqe_cqe.specs.declared.rows.Ana.TheVariants.{Optimized, NonOptimized,
 use Rattle.look_pages.specs.declared.list.Choice.TheVariants.{InGroup}
 use Rattle.look_pages.specs.Pages.{those, words}
 use Rattle.look_pages.specs.Chosen.{chosen_nsids}
-use Rattle.ana_groups.specs.declared.counts.TheConstants.{GROUPS}
+use Rattle.ana_groups.specs.declared.members.TheConstants.{GROUPS}
 
 abbrev pub state_code : Ana → ℕ
 state_code Optimized = 1
@@ -20,10 +20,6 @@ state_code Changing = 15
 -- the enabled NSIDs of a group, rising
 abbrev pub members : View → ℕ → List ℕ
 members v group = chosen_nsids (InGroup group) v
-
--- how many there are of each group, by its number
-abbrev pub AreCounts : View → List ℕ → Type 0
-AreCounts v counts = (g : ℕ) → g ≤ 128 → slice_index counts g ≡ length (members v g)
 
 -- made at the port, or the group of an enabled namespace
 abbrev pub is_reported : View → ℕ → Bool

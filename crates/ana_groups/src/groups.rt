@@ -1,9 +1,12 @@
 ghost use Rattle.std.specs.Prelude.{◌≡◌, ◌≤◌, ◌<◌, ◌+◌, ◌*◌, ◌^◌, ◌++◌, length, if◌then◌else◌, []};
 ghost use Rattle.sqe_cqe.specs.Answers.{view_of};
 ghost use Rattle.look_pages.specs.Pages.{Emits, words, if_one};
+ghost use Rattle.ana_groups.specs.declared.members.TheConstants.{GROUPS};
+ghost use Rattle.ana_groups.specs.Chains.{AreMembers};
 ghost use Rattle.ana_groups.specs.AnaPage.{state_code, members, is_reported, header_bytes, descriptor, group_bytes, groups_bytes};
 
-use look_pages::{Choice, emit, emit_nsids};
+use crate::members::{GROUPS, Members, emit_members};
+use look_pages::emit;
 use sqe_cqe::{Ana, Bound, Look};
 
 // The code of a state in a group's descriptor.
@@ -56,33 +59,6 @@ pub fn in_page<L: Look>(b: &Bound, group: u32, nsids: u32, look: &mut L) -> bool
     nsids > 0
 }
 
-// Adds the NSIDs of a group, unless only the groups are wanted. A group with none costs no walk.
-#[tactic(auto, using(look_pages::proofs::Parts::emits_none, look_pages::proofs::Walks::length_words, crate::proofs::Members::no_members))]
-fn emit_members<L: Look>(
-    b: &Bound,
-    group: u32,
-    nsids: u32,
-    offset: u64,
-    at: u64,
-    look: &mut L,
-    to: &mut [u8],
-) -> u64
-    requires place { at < 2 ^ 50 }
-    requires count { let v = view_of (L.told (L.behind look.old)) b.now in
-        nsids ≡ length (members v group) }
-    ensures emits { let v = view_of (L.told (L.behind look.old)) b.now in
-        Emits offset at to.old to.new (words (members v group)) }
-    ensures at { let v = view_of (L.told (L.behind look.old)) b.now in
-        result ≡ at + length (words (members v group)) }
-    ensures few { result < at + 2 ^ 34 }
-    ensures behind { L.behind look.new ≡ L.behind look.old }
-{
-    if nsids == 0 {
-        return at;
-    }
-    emit_nsids(Choice::InGroup(group), b, offset, at, look, to)
-}
-
 /// Adds a group with its NSIDs; with `rgo` (Return Groups Only) its count of NSIDs is 0 and none
 /// follows. Tells where the page goes on.
 #[tactic(auto, using(look_pages::proofs::Parts::emits_none), unfolding(crate::specs::AnaPage::group_bytes))]
@@ -90,15 +66,15 @@ pub fn emit_group<L: Look>(
     b: &Bound,
     rgo: bool,
     group: u32,
-    nsids: u32,
+    members: &Members,
     offset: u64,
     at: u64,
     look: &mut L,
     to: &mut [u8],
 ) -> u64
     requires place { at < 2 ^ 48 }
-    requires count { let v = view_of (L.told (L.behind look.old)) b.now in
-        nsids ≡ length (members v group) }
+    requires group { group ≤ GROUPS }
+    requires members { AreMembers (view_of (L.told (L.behind look.old)) b.now) members.now }
     ensures emits { let v = view_of (L.told (L.behind look.old)) b.now in
         Emits offset at to.old to.new (group_bytes v rgo group) }
     ensures at { let v = view_of (L.told (L.behind look.old)) b.now in
@@ -106,12 +82,16 @@ pub fn emit_group<L: Look>(
     ensures few { result < at + 2 ^ 35 }
     ensures behind { L.behind look.new ≡ L.behind look.old }
 {
-    let shown = if rgo { 0 } else { nsids };
+    let shown = if rgo {
+        0
+    } else {
+        members.counts[group as usize]
+    };
     let count = look.group_count(b.port, b.sub, group);
     let state = look.ana(b.port, group);
     emit(to, offset, at, &descriptor_of(group, shown, count, state));
     if rgo {
         return at + 32;
     }
-    emit_members(b, group, nsids, offset, at + 32, look, to)
+    emit_members(members, group, offset, at + 32, to)
 }

@@ -2,7 +2,7 @@
 use Rattle.std.proofs.Common.{◌≡◌, ℕ, suc, ◌+◌, ◌-◌, ◌<◌, Bool, true, false, cond, refl, sym, ap, ◌∙◌, arith}
 use Rattle.configfs_rows.specs.Places.{lowest_free}
 
-step_of : (more from : ℕ) (taken : ℕ → Bool) (b : Bool) → taken from ≡ b
+pub step_of : (more from : ℕ) (taken : ℕ → Bool) (b : Bool) → taken from ≡ b
     → lowest_free (suc more) from taken ≡ cond b (lowest_free more (from + 1) taken) from
 unfolding lowest_free
 step_of more from taken b is = ap (λ t. cond t (lowest_free more (from + 1) taken) from) is
@@ -19,7 +19,7 @@ low_free n from taken lt is =
     let e : n - from ≡ suc (n - (from + 1)) = omega arith in
     ap (λ k. lowest_free k from taken) e ∙ step_of (n - (from + 1)) from taken false is
 
-none_left : (from : ℕ) (taken : ℕ → Bool) → lowest_free 0 from taken ≡ from
+pub none_left : (from : ℕ) (taken : ℕ → Bool) → lowest_free 0 from taken ≡ from
 unfolding lowest_free
 none_left from taken = refl
 

@@ -11,20 +11,15 @@ use Rattle.std.specs.declared.cmp.Ordering.{Ordering}
 use Rattle.std.specs.Cmp.{IsTotalOrder}
 use Rattle.std.specs.FinMap as maps
 use Rattle.std.specs.FinMap.{FinMap, IsAntisymmetric, find}
+use Rattle.configfs_rows.proofs.LowFree.{step_of, none_left}
 use Rattle.configfs_rows.specs.Maps.{update_at}
 use Rattle.configfs_rows.specs.Places.{lowest_free, LowestIsFree}
 use Rattle.configfs_rows.specs.Places.{HasPlaces}
 use Rattle.configfs_rows.proofs.Gets.{some_same, none_some, cases_key, get-insert_at, get-insert_beside, get-remove_at, get-remove_beside, was_at}
 
 -- ---- the lowest free position
-step_of : (more from : ℕ) (taken : ℕ → Bool) (b : Bool) → taken from ≡ b
-    → lowest_free (suc more) from taken ≡ cond b (lowest_free more (from + 1) taken) from
-unfolding lowest_free
-step_of more from taken b is = ap (λ t. cond t (lowest_free more (from + 1) taken) from) is
-
-none_left : (from : ℕ) (taken : ℕ → Bool) → lowest_free 0 from taken ≡ from
-unfolding lowest_free
-none_left from taken = refl
+first_or_later : (a b : ℕ) → a ≤ b → (a ≡ b) ⊎ (a < b)
+first_or_later a b le = grind arith
 
 -- it is free, or all are taken
 pub record IsFree (more from : ℕ) (taken : ℕ → Bool) : Type 0 where
@@ -59,9 +54,7 @@ all_later more from taken e h j low high = ⊎_elim
     (λ (is : from ≡ j). subst (λ (n : ℕ). taken n ≡ true) is e)
     (λ (lt : from < j). let low' : from + 1 ≤ j = omega arith in
     let high' : j < from + 1 + more = omega arith in h j low' high')
-    (first_or_later from j low) where
-      first_or_later : (a b : ℕ) → a ≤ b → (a ≡ b) ⊎ (a < b)
-      first_or_later a b le = grind arith
+    (first_or_later from j low)
 
 free_or_full : (more from : ℕ) (taken : ℕ → Bool) → IsFree more from taken
     ⊎ AllTaken more from taken
@@ -83,9 +76,7 @@ lower_at more from j taken true e low lt rest =
     (λ (here : from ≡ j). subst (λ (n : ℕ). taken n ≡ true) here e)
     (λ (above : from < j). let low' : from + 1 ≤ j = omega arith in
     let lt' : j < lowest_free more (from + 1) taken = omega arith in rest low' lt')
-    (later from j low) where
-      later : (a b : ℕ) → a ≤ b → (a ≡ b) ⊎ (a < b)
-      later a b le = grind arith
+    (first_or_later from j low)
 lower_at more from j taken false e low lt rest = let is : lowest_free (suc more) from taken ≡ from =
     step_of more from taken false e in absurd (omega arith)
 

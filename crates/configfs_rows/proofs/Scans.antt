@@ -1,10 +1,13 @@
--- A scan of a map's values for the first that passes a test.
-use Rattle.std.proofs.Common.{◌≡◌, Bool, true, false, ◌||◌, List, [], ◌∷◌, ◌++◌, map, cond, Option, Some, None, refl, sym, ap, ◌∙◌}
-use Rattle.std.specs.List.{list_any, find}
+-- Scans of what an iterator of a map lends: whether anything passes a test, the first that does,
+-- and the item with a number.
+use Rattle.std.proofs.Common.{◌≡◌, Bool, true, false, ◌||◌, List, [], ◌∷◌, ◌++◌, map, cond, ℕ, length, Option, Some, None, is_some, option_copied, option_map, refl, sym, ap, ◌∙◌}
+use Rattle.std.specs.List.{list_any, find, slice_get}
 use Rattle.std.specs.Option.{option_or}
 use Rattle.std.proofs.lemmas.List.{map-append}
-use Rattle.std.specs.Iterator.{Yields}
-use Rattle.std.specs.Map.Iter.{TakesFirst}
+use Rattle.std.specs.Iterator.{Yields, SkipsThenYields}
+use Rattle.std.specs.Map.Iter.{TakesFirst, deref}
+use Rattle.std.proofs.lemmas.Iterator.Consumers.{nth_from_yields_List, YieldsList-from_shown}
+use denote.Ref.{Bor}
 use Rattle.std.proofs.lemmas.Map.Iter.{rest_so_far, rest_more, rest_all}
 use Rattle.std.proofs.lemmas.List.Folds.{list_any-append, find-append}
 
@@ -61,18 +64,37 @@ module _ {A X : Type 0} (shows : A → X) (p : X → Bool) where
 pub clash : (b : Bool) → b ≡ true → b ≡ false → ⊥
 clash b holds fails = cc
 
--- where nothing is found, nothing passes
-missed : {X : Type 0} (p : X → Bool) (x : X) (xs : List X) (b : Bool) → p x ≡ b
-    → find p (x ∷ xs) ≡ None → (find p xs ≡ None → list_any p xs ≡ false)
-    → list_any p (x ∷ xs) ≡ false
-missed p x xs true is e rest = absurd (some_is_none (ap (λ b. cond b (Some x) (find p xs)) (sym is)
-    ∙ e)) where
-      some_is_none : Some x ≡ None → ⊥
-      some_is_none e = cc
-missed p x xs false is e rest = ap (λ b. b || list_any p xs) is
-    ∙ rest (ap (λ b. cond b (Some x) (find p xs)) (sym is) ∙ e)
+-- something is found exactly where something passes
+found_on : {X : Type 0} (p : X → Bool) (x : X) (xs : List X) (b : Bool)
+    → is_some (find p xs) ≡ list_any p xs → is_some (cond b (Some x) (find p xs))
+    ≡ (b || list_any p xs)
+found_on p x xs true e = refl
+found_on p x xs false e = e
+
+pub some_found : {X : Type 0} (p : X → Bool) (xs : List X) → is_some (find p xs) ≡ list_any p xs
+some_found p [] = refl
+some_found p (x ∷ xs) = found_on p x xs (p x) (some_found p xs)
 
 pub none_passes : {X : Type 0} (p : X → Bool) (xs : List X) → find p xs ≡ None
     → list_any p xs ≡ false
-none_passes p [] e = refl
-none_passes p (x ∷ xs) e = missed p x xs (p x) refl e (none_passes p xs)
+none_passes p xs e = sym (some_found p xs) ∙ ap is_some e
+
+copied_some : {X : Type 0} (r : Option (Bor X)) → is_some (option_copied r) ≡ is_some r
+copied_some None = refl
+copied_some (Some x) = refl
+
+-- a scan that lends what it finds tells whether anything passes
+pub lent_passes : {X : Type 0} (p : X → Bool) (xs : List X) (r : Option (Bor X))
+    → option_copied r ≡ find p xs → is_some r ≡ list_any p xs
+lent_passes p xs r e = sym (copied_some r) ∙ ap is_some e ∙ some_found p xs
+
+-- ---- the item with a number
+copied_map : {X : Type 0} (r : Option (Bor X)) → option_copied r ≡ option_map deref r
+copied_map None = refl
+copied_map (Some x) = refl
+
+pub nth_shown : {X : Type 0} (all u : List X) (r : Option (Bor X)) (n : ℕ)
+    → SkipsThenYields (TakesFirst deref) all n r u → option_copied r ≡ slice_get all n
+nth_shown all u r n ran = copied_map r ∙ nth_from_yields_List r u n ran
+    (YieldsList-from_shown (TakesFirst deref) deref (λ s. s) (λ s t h. ap (λ xs. length xs) h.0)
+    (λ s x t h. h) all)

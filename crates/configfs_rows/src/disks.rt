@@ -56,7 +56,7 @@ impl Disks {
     {
         match path {
             None => false,
-            Some(path) => match found_holder(&self.rows, path.as_bytes()) {
+            Some(path) => match find_holder(&self.rows, path.as_bytes()) {
                 None => false,
                 Some(h) => h.sub == sub && h.nsid == nsid,
             },
@@ -79,7 +79,7 @@ impl Disks {
     {
         match path {
             None => false,
-            Some(path) => found_holder(&self.rows, path.as_bytes()).is_some(),
+            Some(path) => find_holder(&self.rows, path.as_bytes()).is_some(),
         }
     }
 
@@ -102,7 +102,7 @@ impl Disks {
     pub fn number(&self, path: &[u8]) -> Option<u8>
         ensures { result ≡ number_of path.now (paths_of self.now) }
     {
-        match found_number(&self.rows, path) {
+        match find_number(&self.rows, path) {
             None => None,
             Some(number) => Some(number as u8),
         }
@@ -125,7 +125,7 @@ fn names_disk(rows: &[DiskRow], path: &[u8]) -> bool
     }
 }
 
-fn found_holder(rows: &[DiskRow], path: &[u8]) -> Option<Holder>
+fn find_holder(rows: &[DiskRow], path: &[u8]) -> Option<Holder>
     ensures { result ≡ holder_of (disk_of path.now rows.now) }
 {
     match rows {
@@ -134,13 +134,13 @@ fn found_holder(rows: &[DiskRow], path: &[u8]) -> Option<Holder>
             if d.path.as_bytes() == path {
                 d.holder
             } else {
-                found_holder(rest, path)
+                find_holder(rest, path)
             }
         }
     }
 }
 
-fn found_number(rows: &[DiskRow], path: &[u8]) -> Option<usize>
+fn find_number(rows: &[DiskRow], path: &[u8]) -> Option<usize>
     ensures is { result ≡ number_of path.now (paths_of rows.now) }
     ensures below { IfSome result (λ n. n < length rows.now) }
 {
@@ -150,7 +150,7 @@ fn found_number(rows: &[DiskRow], path: &[u8]) -> Option<usize>
             if d.path.as_bytes() == path {
                 Some(0)
             } else {
-                match found_number(rest, path) {
+                match find_number(rest, path) {
                     Some(n) => Some(n + 1),
                     None => None,
                 }

@@ -81,14 +81,7 @@ impl Names {
     pub fn nth(&self, n: usize) -> Option<&Nqn>
         ensures { option_copied result ≡ slice_get (map.keys self.now) n }
     {
-        let mut left = n;
-        for name in self.names.keys() {
-            if left == 0 {
-                return Some(name);
-            }
-            left -= 1;
-        }
-        None
+        self.iter().nth(n)
     }
 
     /// The names in byte order.

@@ -177,13 +177,6 @@ impl Namespaces {
     pub fn nth(&self, n: usize) -> Option<u32>
         ensures { result ≡ slice_get (map.keys self.now) n }
     {
-        let mut left = n;
-        for nsid in self.rows.keys() {
-            if left == 0 {
-                return Some(*nsid);
-            }
-            left -= 1;
-        }
-        None
+        self.rows.keys().nth(n).copied()
     }
 }

@@ -6,6 +6,7 @@ ghost use Rattle.configfs_rows.specs.Ports.{fresh_port, has_group, address_of, w
 ghost use Rattle.std.specs.FinMap as map;
 
 use crate::limits::MAX_PORTS;
+use crate::linked_rows::{LinkedRow, lowest_place, row_at, some_row_links};
 use crate::names::Names;
 use crate::nqn::Nqn;
 use mem_bdev::Name;
@@ -94,14 +95,7 @@ impl Groups {
     pub fn nth(&self, n: usize) -> Option<u32>
         ensures { result ≡ slice_get (map.keys self.now) n }
     {
-        let mut left = n;
-        for group in self.rows.keys() {
-            if left == 0 {
-                return Some(*group);
-            }
-            left -= 1;
-        }
-        None
+        self.rows.keys().nth(n).copied()
     }
 }
 
@@ -187,6 +181,20 @@ impl PortRow {
             Address::Trsvcid => self.trsvcid = value,
             Address::Treq => self.treq = value,
         }
+    }
+}
+
+impl LinkedRow for PortRow {
+    ghost place = { λ p. p.at };
+
+    ghost linked = { λ p. p.links };
+
+    fn place(&self) -> u8 {
+        self.at
+    }
+
+    fn links(&self) -> &Names {
+        &self.links
     }
 }
 
@@ -287,24 +295,14 @@ impl Ports {
     pub fn some_links(&self, name: &Nqn) -> bool
         ensures { result ≡ list_any (λ p. map.contains_key p.links name.now) (map.values self.now) }
     {
-        for row in self.rows.values() {
-            if row.links.contains(name) {
-                return true;
-            }
-        }
-        false
+        some_row_links(self.iter(), name)
     }
 
     /// Whether a port stands at the position.
     pub fn has_place(&self, at: u8) -> bool
         ensures { result ≡ list_any (λ p. p.at == at) (map.values self.now) }
     {
-        for row in self.rows.values() {
-            if row.at == at {
-                return true;
-            }
-        }
-        false
+        self.at(at).is_some()
     }
 
     /// The lowest free position.
@@ -312,24 +310,14 @@ impl Ports {
         ensures { result ≡ lowest_free MAX_PORTS 0 (λ at. list_any (λ p. p.at == at)
             (map.values self.now)) }
     {
-        for at in 0..MAX_PORTS as u8 {
-            if !self.has_place(at) {
-                return at;
-            }
-        }
-        MAX_PORTS as u8
+        lowest_place(&self.rows, MAX_PORTS as u8)
     }
 
     /// The port at a position, or `None` exactly where none stands there.
     pub fn at(&self, at: u8) -> Option<&PortRow>
         ensures { option_copied result ≡ find (λ p. p.at == at) (map.values self.now) }
     {
-        for row in self.rows.values() {
-            if row.at == at {
-                return Some(row);
-            }
-        }
-        None
+        row_at(self.iter(), at)
     }
 
     /// The ports in the order of IDs.
@@ -344,14 +332,7 @@ impl Ports {
     pub fn nth(&self, n: usize) -> Option<&PortRow>
         ensures { option_copied result ≡ slice_get (map.values self.now) n }
     {
-        let mut left = n;
-        for row in self.rows.values() {
-            if left == 0 {
-                return Some(row);
-            }
-            left -= 1;
-        }
-        None
+        self.iter().nth(n)
     }
 
     /// Makes the link to a subsystem, or takes it away.

@@ -7,6 +7,7 @@ ghost use Rattle.configfs_rows.specs.Places.{lowest_free};
 ghost use Rattle.configfs_rows.specs.Subsystems.{fresh_subsystem, put_namespace, add_namespace, remove_namespace, put_in_subsystem, put_allowed};
 
 use crate::limits::MAX_SUBSYSTEMS;
+use crate::linked_rows::{LinkedRow, lowest_place, row_at, some_row_links};
 use crate::names::Names;
 use crate::namespaces::{NamespacePut, Namespaces};
 use crate::nqn::Nqn;
@@ -73,6 +74,20 @@ impl SubsystemRow {
             SubsystemPut::Serial(serial) => self.serial = serial,
             SubsystemPut::ModelName(name) => self.model_name = name,
         }
+    }
+}
+
+impl LinkedRow for SubsystemRow {
+    ghost place = { λ s. s.at };
+
+    ghost linked = { λ s. s.allowed_hosts };
+
+    fn place(&self) -> u8 {
+        self.at
+    }
+
+    fn links(&self) -> &Names {
+        &self.allowed_hosts
     }
 }
 
@@ -150,12 +165,7 @@ impl Subsystems {
         ensures { result ≡ list_any (λ s. map.contains_key s.allowed_hosts host.now)
             (map.values self.now) }
     {
-        for row in self.rows.values() {
-            if row.allowed_hosts.contains(host) {
-                return true;
-            }
-        }
-        false
+        some_row_links(self.iter(), host)
     }
 
     /// How many subsystems there are.
@@ -178,12 +188,7 @@ impl Subsystems {
     pub fn has_place(&self, at: u8) -> bool
         ensures { result ≡ list_any (λ s. s.at == at) (map.values self.now) }
     {
-        for row in self.rows.values() {
-            if row.at == at {
-                return true;
-            }
-        }
-        false
+        self.at(at).is_some()
     }
 
     /// The lowest free position.
@@ -191,12 +196,7 @@ impl Subsystems {
         ensures { result ≡ lowest_free MAX_SUBSYSTEMS 0 (λ at. list_any (λ s. s.at == at)
             (map.values self.now)) }
     {
-        for at in 0..MAX_SUBSYSTEMS as u8 {
-            if !self.has_place(at) {
-                return at;
-            }
-        }
-        MAX_SUBSYSTEMS as u8
+        lowest_place(&self.rows, MAX_SUBSYSTEMS as u8)
     }
 
     /// Puts a value into a subsystem, where it is there.
@@ -220,12 +220,7 @@ impl Subsystems {
     pub fn at(&self, at: u8) -> Option<&SubsystemRow>
         ensures { option_copied result ≡ find (λ s. s.at == at) (map.values self.now) }
     {
-        for row in self.rows.values() {
-            if row.at == at {
-                return Some(row);
-            }
-        }
-        None
+        row_at(self.iter(), at)
     }
 
     /// The subsystems in byte order of NQN.
@@ -240,14 +235,7 @@ impl Subsystems {
     pub fn nth(&self, n: usize) -> Option<&SubsystemRow>
         ensures { option_copied result ≡ slice_get (map.values self.now) n }
     {
-        let mut left = n;
-        for row in self.rows.values() {
-            if left == 0 {
-                return Some(row);
-            }
-            left -= 1;
-        }
-        None
+        self.iter().nth(n)
     }
 
     /// Makes the link to a host, or takes it away.

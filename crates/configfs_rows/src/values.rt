@@ -37,7 +37,7 @@ pub fn may_be_path(value: &[u8]) -> bool
 }
 
 /// Whether a path is set to a value.
-pub fn stands(path: &Option<Name>, value: &[u8]) -> bool
+pub fn has_path(path: &Option<Name>, value: &[u8]) -> bool
     ensures { result ≡ has_path path.now value.now }
 {
     match path {

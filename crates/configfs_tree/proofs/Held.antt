@@ -271,7 +271,8 @@ enabled_kept old new disks sub nsid others at n m path d was is n_path m_path fo
                   Some me;
             }) me m.device_path (disk_of-hold_at path (Some me) disks d found) refl m_path
             in
-            let held' : IsTrue (holds_path (hold path (Some me) disks) x.at nsid x.row.device_path) =
+            let held' : IsTrue (holds_path (hold path (Some me) disks) x.at nsid
+            x.row.device_path) =
             subst (λ (y : Placed). IsTrue (holds_path (hold path (Some me) disks) y.at nsid
             y.row.device_path)) x_is held in
             subst (λ (j' : ℕ). IsTrue (holds_path (hold path (Some me) disks) x.at j'
@@ -305,7 +306,8 @@ enabled_kept old new disks sub nsid others at n m path d was is n_path m_path fo
       me : Holder
       me = record { sub = at; nsid = nsid }
 
-      other_holder : (q : List ℕ) (k : Holder) → (q ≡ path → ⊥) → IsHeldBy old q k → IsHeldBy new q k
+      other_holder : (q : List ℕ) (k : Holder) → (q ≡ path → ⊥) → IsHeldBy old q k
+          → IsHeldBy new q k
       other_holder q k ne w = elim (cases_slot sub nsid w.sub k.nsid) [
         | is_slot ea ej ↦
             let row_is : here at n ≡ here k.sub w.row =

@@ -1,6 +1,8 @@
 -- What holds of the tree and the change that an outcome accepts, row by row of the table.
 use Rattle.std.proofs.Common.{◌≡◌, ℕ, Bool, true, false, List, [], ◌∷◌, Option, Some, None, refl}
-use Rattle.configfs_tree.specs.Outcome.{Outcome, Refuses, Accepts, first_of, either, unless_stands, if_subsystem, if_namespace, if_port, if_group, nothing}
+use Rattle.configfs_tree.specs.Outcome.{Outcome, Refuses, Accepts, first_of, either, unless_stands, if_subsystem, if_rows, if_port, if_group, nothing}
+use Rattle.std.specs.FinMap as map
+use Rattle.configfs_tree.specs.NamespaceRows.{paired, rows_in}
 use Rattle.configfs_tree.specs.Table.{put_parsed}
 use Rattle.configfs_tree.specs.declared.edits.Errno.{Errno}
 use Rattle.configfs_tree.specs.declared.edits.Errno.TheVariants.{ENOENT, EINVAL}
@@ -70,12 +72,22 @@ unfolding if_subsystem
 holds_if_subsystem None f h = refuses ENOENT
 holds_if_subsystem (Some x) f h = h x refl
 
-pub holds_if_namespace : {P : Configuration → Change
-    → Type 0} (found : Option NamespaceRow) (f : NamespaceRow → Outcome)
-    → ((x : NamespaceRow) → found ≡ Some x → Holds P (f x)) → Holds P (if_namespace found f)
-unfolding if_namespace
-holds_if_namespace None f h = refuses ENOENT
-holds_if_namespace (Some x) f h = h x refl
+holds_if_paired : {P : Configuration → Change
+    → Type 0} (s : SubsystemRow) (found : Option NamespaceRow) (f : SubsystemRow → NamespaceRow
+    → Outcome) → ((n : NamespaceRow) → found ≡ Some n → Holds P (f s n))
+    → Holds P (if_rows (paired s found) f)
+unfolding if_rows
+holds_if_paired s None f h = refuses ENOENT
+holds_if_paired s (Some n) f h = h n refl
+
+pub holds_if_rows : {P : Configuration → Change
+    → Type 0} (nsid : ℕ) (found : Option SubsystemRow) (f : SubsystemRow → NamespaceRow → Outcome)
+    → ((s : SubsystemRow) → found ≡ Some s → (n : NamespaceRow)
+    → map.get s.namespaces nsid ≡ Some n → Holds P (f s n))
+    → Holds P (if_rows (rows_in nsid found) f)
+unfolding if_rows
+holds_if_rows nsid None f h = refuses ENOENT
+holds_if_rows nsid (Some s) f h = holds_if_paired s (map.get s.namespaces nsid) f (h s refl)
 
 pub holds_if_port : {P : Configuration → Change → Type 0} (found : Option PortRow) (f : PortRow
     → Outcome) → ((x : PortRow) → found ≡ Some x → Holds P (f x)) → Holds P (if_port found f)

@@ -1,5 +1,5 @@
 -- Each accepted edit keeps the standing facts.
-use Rattle.std.proofs.Common.{◌≡◌, ℕ, ◌==◌, true, false, List, Option, Some, None, is_some, refl, sym, ap, subst, ◌∙◌, IsTrue}
+use Rattle.std.proofs.Common.{◌≡◌, ℕ, ◌==◌, ◌||◌, nat_lt, false, List, Option, Some, None, is_some, refl, sym, ap, subst, ◌∙◌, IsTrue}
 use mathlib.Core.Logic.{⊎_elim}
 use Rattle.std.proofs.lemmas.Bool.{both_ways, eq-eqb}
 use Rattle.std.specs.Ordering.{nat_cmp}
@@ -20,9 +20,12 @@ use Rattle.configfs_rows.specs.declared.namespaces.NamespacePut.{NamespacePut}
 use Rattle.configfs_rows.specs.declared.subsystems.SubsystemRow.{SubsystemRow}
 use Rattle.sqe_cqe.specs.declared.rows.Ana.{Ana}
 use Rattle.configfs_rows.specs.declared.ports.PortRow.{PortRow}
+use Rattle.configfs_tree.specs.Sound.{Hosts}
+use Rattle.configfs_tree.specs.declared.configuration.Attached.{Attached}
 use Rattle.configfs_tree.specs.declared.configuration.Configuration.{Configuration}
 use Rattle.configfs_rows.proofs.Gets.{some_same, none_some, cases_key, get-insert_at, get-insert_beside, get-remove_at, get-remove_beside, get-update_at, get-update_beside, update_none, was_at}
 use Rattle.configfs_rows.proofs.Placing.{places_updated}
+use Rattle.configfs_tree.proofs.Tests.{left_false, none_below}
 use Rattle.configfs_tree.proofs.Held.{here, cases_name, moved_same, altered_kept, altered_free}
 
 abbrev pub Rows : Type 0
@@ -30,10 +33,6 @@ Rows = FinMap name_order SubsystemRow
 
 pub names_same : IsAntisymmetric name_order
 names_same = slice_cmp-IsAntisymmetric nat_cmp-IsAntisymmetric
-
-pub none_of_test : {X : Type 0} (o : Option X) → is_some o ≡ false → o ≡ None
-none_of_test None e = refl
-none_of_test (Some x) e = absurd (both_ways true e refl)
 
 -- ---- where namespaces stand after an edit
 at_sub : (m : Rows) (sub : List ℕ) (f : SubsystemRow → SubsystemRow) (j : ℕ)
@@ -86,6 +85,12 @@ pub placed_was : (m : Rows) (sub : List ℕ) (nsid : ℕ) (s : SubsystemRow) (n 
     → map.get m sub ≡ Some s → map.get s.namespaces nsid ≡ n → placed m sub nsid ≡ placed_row s.at n
 placed_was m sub nsid s n e f = ap (placed_in nsid) e ∙ ap (placed_row s.at) f
 
+-- one that has no namespace and no allowed host
+pub no_namespaces : (s : SubsystemRow) → (nat_lt 0 (map.len s.namespaces)
+    || nat_lt 0 (map.len s.allowed_hosts)) ≡ false → s.namespaces ≡ map.empty
+no_namespaces s unfilled = map.empty_of_len s.namespaces (none_below (map.len s.namespaces)
+    (left_false (nat_lt 0 (map.len s.namespaces)) (nat_lt 0 (map.len s.allowed_hosts)) unfilled))
+
 no_spaces : (s : SubsystemRow) (j : ℕ) → s.namespaces ≡ map.empty → placed_in j (Some s) ≡ None
 no_spaces s j e = ap (placed_row s.at) (ap (λ (ns : Spaces). map.get ns j) e
     ∙ map.get-empty nat_cmp j)
@@ -122,13 +127,23 @@ subsystems_changed t m places holders h = record {
   holders = holders;
 }
 
-pub count_changed : (t : Configuration) → IsPlaced t → IsPlaced (counted t)
-count_changed t h = record {
+-- a part that rows, places and disks don't lie in
+pub changed_beside : (t : Configuration) (hosts : Hosts) (attached : Attached) (count : ℕ)
+    → IsPlaced t → IsPlaced (with_settings t (record t.settings {
+      hosts = hosts;
+      attached = attached;
+      ana_count = count;
+    }))
+changed_beside t hosts attached count h = record {
   subsystems = h.subsystems;
   ports = h.ports;
   group_one = h.group_one;
   holders = h.holders;
 }
+
+pub count_changed : (t : Configuration) → IsPlaced t → IsPlaced (counted t)
+count_changed t h = changed_beside t t.settings.hosts t.settings.attached
+    (counted t).settings.ana_count h
 
 -- an attribute or a link of a subsystem
 pub subsystem_put : (t : Configuration) (sub : List ℕ) (f : SubsystemRow → SubsystemRow)

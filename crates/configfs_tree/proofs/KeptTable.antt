@@ -1,8 +1,8 @@
 -- Each row group of the table keeps the standing facts.
-use Rattle.std.proofs.Common.{◌≡◌, ℕ, ◌&&◌, ◌||◌, ◌<◌, ◌≤◌, not, Bool, true, false, cond, List, [], ◌∷◌, Option, Some, None, is_some, nat_lt, refl, sym, ap, subst, ◌∙◌, IsTrue, arith, Result, Ok, Err, codes}
+use Rattle.std.proofs.Common.{◌≡◌, ℕ, ◌&&◌, ◌||◌, ◌<◌, not, Bool, true, false, cond, List, [], ◌∷◌, Option, Some, None, is_some, refl, sym, ap, subst, ◌∙◌, IsTrue, Result, Ok, Err, codes}
 use mathlib.Core.Logic.{⊎_elim}
 use Rattle.std.specs.Str.{bytes_eq}
-use Rattle.std.proofs.lemmas.Bool.{both_ways, ltb-true, ltb-false, not-false}
+use Rattle.std.proofs.lemmas.Bool.{both_ways, not-false}
 use Rattle.std.specs.Ordering.{nat_cmp}
 use Rattle.std.specs.Cmp.{nat_cmp_total}
 use Rattle.std.specs.Cmp.Lexicographic.{nat_list_cmp_total}
@@ -15,34 +15,30 @@ use Rattle.configfs_rows.specs.Subsystems.{fresh_subsystem, put_in_subsystem, pu
 use Rattle.configfs_rows.specs.Ports.{fresh_port, with_address, put_link, put_group, remove_group}
 use Rattle.configfs_rows.specs.Places.{lowest_free}
 use Rattle.configfs_rows.specs.Holders.{disk_of, holder_of, hold, number_of, paths_of, holds_path, has_disk, is_held, path_or_empty}
-use Rattle.configfs_tree.specs.Outcome.{Outcome, unless_stands, with_settings, on_subsystem, on_port}
+use Rattle.configfs_tree.specs.Outcome.{Outcome, unless_stands, on_subsystem, on_port}
 use Rattle.configfs_tree.specs.Standing.{Placed, placed_row, placed_in, placed, HasHolders, IsPlaced}
 use Rattle.configfs_rows.specs.declared.limits.TheConstants.{MAX_SUBSYSTEMS, MAX_PORTS}
 use Rattle.configfs_rows.specs.declared.disks.DiskRow.{DiskRow}
 use Rattle.configfs_rows.specs.declared.disks.Holder.{Holder}
-use Rattle.configfs_tree.specs.declared.edits.Errno.{Errno}
 use Rattle.configfs_rows.specs.declared.namespaces.NamespaceRow.{NamespaceRow}
 use Rattle.configfs_rows.specs.declared.subsystems.SubsystemRow.{SubsystemRow}
 use Rattle.sqe_cqe.specs.declared.rows.Ana.{Ana}
 use Rattle.configfs_rows.specs.declared.ports.PortRow.{PortRow}
 use Rattle.configfs_tree.specs.declared.configuration.Configuration.{Configuration}
-use Rattle.configfs_tree.specs.declared.configuration.Attached.{Attached}
 use Rattle.configfs_rows.proofs.Gets.{some_same, none_some, cases_key, get-insert_at, get-insert_beside, get-remove_at, get-remove_beside, get-update_at, get-update_beside}
-use Rattle.configfs_tree.proofs.Kept.{names_same, none_of_test, placed_made, placed_removed, placed_others, placed_here, placed_was, subsystems_changed, count_changed, subsystem_put, namespace_put, namespace_free, port_put, one_put, one_removed}
-use Rattle.configfs_tree.proofs.Holds.{Holds, refuses, accepted, holds_row, holds_end, holds_last, holds_either, holds_unless, holds_if_subsystem, holds_if_namespace, holds_if_port, holds_if_group, holds_parsed}
+use Rattle.configfs_tree.proofs.Kept.{names_same, no_namespaces, placed_made, placed_removed, placed_others, placed_here, placed_was, subsystems_changed, changed_beside, count_changed, subsystem_put, namespace_put, namespace_free, port_put, one_put, one_removed}
+use Rattle.configfs_tree.proofs.Tests.{left_false, right_false, none_of_test, room_of}
+use Rattle.configfs_tree.proofs.Holds.{Holds, refuses, holds_row, holds_end, holds_last, holds_either, holds_unless, holds_if_subsystem, holds_if_rows, holds_if_port, holds_if_group, holds_parsed}
 use Rattle.configfs_rows.proofs.Placing.{places_inserted, places_removed, places_updated, place_is_free, stands_at_none}
 use Rattle.configfs_tree.proofs.Held.{here, moved_same, enabled_kept, drained_kept, holder_holds, holding}
-use Rattle.std.specs.Prelude.{OnOk, OnErr, IfOk}
+use Rattle.std.specs.Prelude.{OnOk, OnErr}
 use Rattle.mem_bdev.specs.declared.disk.DiskLine.{DiskLine}
-use Rattle.configfs_tree.specs.declared.edits.Change.{Change}
-use Rattle.configfs_tree.specs.declared.edits.Refused.{Refused}
-use Rattle.configfs_tree.specs.declared.edits.Refused.TheVariants as refused
 use Rattle.configfs_rows.specs.declared.namespaces.Phase.TheVariants as phase
-use Rattle.configfs_tree.specs.Gives.{Gives, GivesErrno}
-use Rattle.configfs_tree.specs.Phases.{phase_from, phase_of_some, phase_in, phase_at}
-use Rattle.configfs_tree.specs.Drained.{freed_path, freed_by, freed_in, drained}
+use Rattle.configfs_tree.specs.Phases.{phase_from, phase_of_rows, phase_at}
+use Rattle.configfs_tree.specs.NamespaceRows.{paired, rows_in}
+use Rattle.configfs_tree.specs.Drained.{freed_path, freed_by, drained}
 use Rattle.configfs_tree.specs.Start.{free_disk, empty_tree}
-use Rattle.configfs_tree.specs.Links.{allowed_in, linked_in, with_attached, with_no_changes}
+use Rattle.configfs_tree.specs.Links.{allowed_in, linked_in}
 use Rattle.configfs_tree.specs.Standing.{AnotherHas, HeldMeansAnother}
 use mathlib.Core.List.{map as map_list}
 use Rattle.uuid.specs.Text.{parsed}
@@ -75,16 +71,9 @@ Keeps o = Holds (λ u change. IsPlaced u) o
 -- ---- mkdir
 k_mkdir_host : (t : Configuration) (host : List ℕ) → IsPlaced t → Keeps (mkdir_host t host)
 unfolding mkdir_host
-k_mkdir_host t host h = holds_row _ _ _ _ (λ _. holds_last _ _ _ _ (λ _. record {
-  subsystems =
-      h.subsystems;
-  ports = h.ports;
-  group_one = h.group_one;
-  holders = h.holders;
-}))
-
-room_of : (a b : ℕ) → not (nat_lt a b) ≡ false → a < b
-room_of a b e = ltb-true a b (not-false (nat_lt a b) e)
+k_mkdir_host t host h = holds_row _ _ _ _ (λ _. holds_last _ _ _ _ (λ _.
+    changed_beside t (map.insert t.settings.hosts host tt) t.settings.attached t.settings.ana_count
+    h))
 
 k_mkdir_subsystem : (t : Configuration) (sub : List ℕ) → IsPlaced t → Keeps (mkdir_subsystem t sub)
 unfolding mkdir_subsystem
@@ -157,39 +146,21 @@ k_mkdir_ana_group t id group h = holds_if_port _ _ (λ p e. holds_row _ _ _ _
 -- ---- rmdir
 k_rmdir_host : (t : Configuration) (host : List ℕ) → IsPlaced t → Keeps (rmdir_host t host)
 unfolding rmdir_host
-k_rmdir_host t host h = holds_row _ _ _ _ (λ _. holds_last _ _ _ _ (λ _. record {
-  subsystems =
-      h.subsystems;
-  ports = h.ports;
-  group_one = h.group_one;
-  holders = h.holders;
-}))
-
-pub left_false : (a b : Bool) → (a || b) ≡ false → a ≡ false
-left_false true b e = e
-left_false false b e = refl
-
-pub none_below : (n : ℕ) → nat_lt 0 n ≡ false → n ≡ 0
-none_below n e = let low : n ≤ 0 = ltb-false 0 n e in omega arith
+k_rmdir_host t host h = holds_row _ _ _ _ (λ _. holds_last _ _ _ _ (λ _.
+    changed_beside t (map.remove t.settings.hosts host) t.settings.attached t.settings.ana_count
+    h))
 
 k_rmdir_subsystem : (t : Configuration) (sub : List ℕ) → IsPlaced t → Keeps (rmdir_subsystem t sub)
 unfolding rmdir_subsystem
 k_rmdir_subsystem t sub h = holds_if_subsystem _ _ (λ s e. holds_row _ _ _ _
     (λ _. holds_last _ _ _ _ (λ unfilled.
     let m = t.settings.subsystems in
-    let empty : s.namespaces ≡ map.empty =
-    map.empty_of_len s.namespaces (none_below (map.len s.namespaces)
-    (left_false (nat_lt 0 (map.len s.namespaces)) (nat_lt 0 (map.len s.allowed_hosts))
-    unfilled)) in
+    let empty = no_namespaces s unfilled in
     subsystems_changed t (map.remove m sub)
     (places_removed nat_list_cmp_total names_same (λ (x : SubsystemRow). x.nqn)
     (λ (x : SubsystemRow). x.at) MAX_SUBSYSTEMS m sub h.subsystems)
     (moved_same (placed m) (placed (map.remove m sub)) t.disks (placed_removed m sub s e empty)
     h.holders) h)))
-
-pub right_false : (a b : Bool) → (a || b) ≡ false → b ≡ false
-right_false true b e = absurd (both_ways true e refl)
-right_false false b e = e
 
 -- a namespace that isn't busy holds no disk
 free_of : (t : Configuration) (s : SubsystemRow) (nsid : ℕ) (n m : NamespaceRow)
@@ -202,13 +173,12 @@ free_of t s nsid n m found e free f = subst (λ (x : NamespaceRow). holds_path t
 k_rmdir_namespace : (t : Configuration) (sub : List ℕ) (nsid : ℕ) → IsPlaced t
     → Keeps (rmdir_namespace t sub nsid)
 unfolding rmdir_namespace
-k_rmdir_namespace t sub nsid h = holds_if_subsystem _ _ (λ s e. holds_if_namespace _ _
-    (λ n f. holds_last _ _ _ _ (λ free.
+k_rmdir_namespace t sub nsid h = holds_if_rows _ _ _ (λ s e n f. holds_last _ _ _ _ (λ free.
     namespace_free t sub nsid (λ ns. map.remove ns nsid) s e
     (λ ns j ne. get-remove_beside nat_cmp_total nat_cmp-IsAntisymmetric ns nsid j ne)
     (λ m found. free_of t s nsid n m (map.get s.namespaces nsid) f free found)
     (λ m found. absurd (none_some m (sym (get-remove_at nat_cmp_total nat_cmp-IsAntisymmetric
-    s.namespaces nsid) ∙ found))) h)))
+    s.namespaces nsid) ∙ found))) h))
 
 k_rmdir_port : (t : Configuration) (id : ℕ) → IsPlaced t → Keeps (rmdir_port t id)
 unfolding rmdir_port
@@ -266,7 +236,7 @@ k_set_device_path : (t : Configuration) (sub : List ℕ) (nsid : ℕ) (value : L
     → Keeps (set_device_path t sub nsid value)
 unfolding set_device_path
 k_set_device_path t sub nsid value h =
-    holds_if_subsystem _ _ (λ s e. holds_if_namespace _ _ (λ n f. holds_row _ _ _ _
+    holds_if_rows _ _ _ (λ s e n f. holds_row _ _ _ _
     (λ free. holds_end _ _ _ (λ _. holds_unless _ t _ _ h (λ _.
     namespace_free t sub nsid (λ ns. update_at ns nsid (put_in
     (Path value (number_of value (paths_of t.disks))))) s e
@@ -277,17 +247,17 @@ k_set_device_path t sub nsid value h =
     (put_in (Path value (number_of value (paths_of t.disks))) n) m
     (sym (get-update_at nat_cmp_total nat_cmp-IsAntisymmetric s.namespaces nsid
     (put_in (Path value (number_of value (paths_of t.disks)))) n f) ∙ found)))
-    ∙ left_false n.enabled (holds_path t.disks s.at nsid n.device_path) free) h)))))
+    ∙ left_false n.enabled (holds_path t.disks s.at nsid n.device_path) free) h))))
 
 k_set_identifier : (t : Configuration) (sub : List ℕ) (nsid : ℕ) (which : Identifier)
     (value : List ℕ) → IsPlaced t → Keeps (set_identifier t sub nsid which value)
 unfolding set_identifier
 k_set_identifier t sub nsid which value h =
-    holds_if_subsystem _ _ (λ s e. holds_if_namespace _ _ (λ n f. holds_end _ _ _
+    holds_if_rows _ _ _ (λ s e n f. holds_end _ _ _
     (λ _. holds_parsed (parsed value) (λ (bytes : List ℕ). unless_stands
     (bytes_eq (identifier_of which n) bytes) t (put_on t sub s.at nsid (NewIdentifier which bytes)))
     (λ bytes. holds_unless _ t _ _ h (λ _.
-    namespace_put t sub nsid (NewIdentifier which bytes) s n e f refl (λ on. on) h)))))
+    namespace_put t sub nsid (NewIdentifier which bytes) s n e f refl (λ on. on) h))))
 
 keeps_group_of : (t : Configuration) (sub : List ℕ) (nsid : ℕ) (s : SubsystemRow) (n : NamespaceRow)
     (group : Option ℕ) → map.get t.settings.subsystems sub ≡ Some s
@@ -301,8 +271,8 @@ keeps_group_of t sub nsid s n (Some group) e f h =
 k_set_ana_grpid : (t : Configuration) (sub : List ℕ) (nsid : ℕ) (value : List ℕ) → IsPlaced t
     → Keeps (set_ana_grpid t sub nsid value)
 unfolding set_ana_grpid
-k_set_ana_grpid t sub nsid value h = holds_if_subsystem _ _ (λ s e. holds_if_namespace _ _
-    (λ n f. keeps_group_of t sub nsid s n (group_named value) e f h))
+k_set_ana_grpid t sub nsid value h = holds_if_rows _ _ _ (λ s e n f.
+    keeps_group_of t sub nsid s n (group_named value) e f h)
 
 -- the disk of a path that is free
 record FreeDisk (disks : List DiskRow) (q : Option (List ℕ)) : Type 0 where
@@ -376,11 +346,10 @@ keeps_disabled t sub nsid s n e f h = holds_unless _ t _ _ h
 pub k_set_enable : (t : Configuration) (sub : List ℕ) (nsid : ℕ) (value : List ℕ) → IsPlaced t
     → Keeps (set_enable t sub nsid value)
 unfolding set_enable
-k_set_enable t sub nsid value h = holds_if_subsystem _ _ (λ s e. holds_if_namespace _ _
-    (λ n f. holds_either _ _ _
+k_set_enable t sub nsid value h = holds_if_rows _ _ _ (λ s e n f. holds_either _ _ _
     (keeps_disabled t sub nsid s n e f h)
     (holds_row _ _ _ _ (λ _. holds_row _ _ _ _ (λ _. holds_row _ _ _ _
-    (λ named. holds_end _ _ _ (λ unheld. keeps_enabled t sub nsid s n e f named unheld h)))))))
+    (λ named. holds_end _ _ _ (λ unheld. keeps_enabled t sub nsid s n e f named unheld h))))))
 
 k_set_of_namespace : (t : Configuration) (sub : List ℕ) (nsid : ℕ) (a : Attr) (value : List ℕ)
     → IsPlaced t → Keeps (set_of_namespace t sub nsid a value)
@@ -477,32 +446,6 @@ pub either_stands : {E : Type 0} (r : Result (Unit {0}) E) (old new to : Configu
 either_stands (Ok x) old new to g f k h = stands_along to new g k
 either_stands (Err x) old new to g f k h = stands_along old new f h
 
-pub attached_stands : (t : Configuration) (sub port : ℕ) → IsPlaced t
-    → IsPlaced (with_attached t sub port)
-attached_stands t sub port h = record {
-  subsystems = h.subsystems;
-  ports = h.ports;
-  group_one = h.group_one;
-  holders = h.holders;
-}
-
-pub any_attached : (t : Configuration) (attached : Attached) → IsPlaced t
-    → IsPlaced (with_settings t (record t.settings { attached = attached }))
-any_attached t attached h = record {
-  subsystems = h.subsystems;
-  ports = h.ports;
-  group_one = h.group_one;
-  holders = h.holders;
-}
-
-pub loaded_stands : (t : Configuration) → IsPlaced t → IsPlaced (with_no_changes t)
-loaded_stands t h = record {
-  subsystems = h.subsystems;
-  ports = h.ports;
-  group_one = h.group_one;
-  holders = h.holders;
-}
-
 -- ---- links
 pub allowed_stands : (t : Configuration) (host : List ℕ) (linked : Bool)
     (found : Option SubsystemRow) → IsPlaced t → IsPlaced (allowed_in t host linked found)
@@ -570,8 +513,8 @@ free_path_stands t sub nsid s n (Some path) e f is off held h =
 
 free_row_stands : (t : Configuration) (sub : List ℕ) (nsid : ℕ) (s : SubsystemRow)
     (n : Option NamespaceRow) → map.get t.settings.subsystems sub ≡ Some s
-    → map.get s.namespaces nsid ≡ n → phase_of_some t s nsid n ≡ Some phase.Draining → IsPlaced t
-    → IsPlaced (freed_by t n)
+    → map.get s.namespaces nsid ≡ n → phase_of_rows t nsid (paired s n) ≡ Some phase.Draining
+    → IsPlaced t → IsPlaced (freed_by t (paired s n))
 free_row_stands t sub nsid s None e f is h = h
 free_row_stands t sub nsid s (Some n) e f is h =
     let d = drain_of n.enabled (holds_path t.disks s.at nsid n.device_path)
@@ -580,8 +523,9 @@ free_row_stands t sub nsid s (Some n) e f is h =
     free_path_stands t sub nsid s n n.device_path e f refl d.off d.held h
 
 free_in_stands : (t : Configuration) (sub : List ℕ) (nsid : ℕ) (found : Option SubsystemRow)
-    → map.get t.settings.subsystems sub ≡ found → phase_in t nsid found ≡ Some phase.Draining
-    → IsPlaced t → IsPlaced (freed_in t nsid found)
+    → map.get t.settings.subsystems sub ≡ found
+    → phase_of_rows t nsid (rows_in nsid found) ≡ Some phase.Draining → IsPlaced t
+    → IsPlaced (freed_by t (rows_in nsid found))
 free_in_stands t sub nsid None e is h = h
 free_in_stands t sub nsid (Some s) e is h =
     free_row_stands t sub nsid s (map.get s.namespaces nsid) e refl is h
@@ -599,7 +543,8 @@ no_holder (l ∷ lines) path d e = one_free (bytes_eq l.path path) (free_disk l)
     (disk_of path (map_list free_disk lines)) refl e (no_holder lines path d) where
       one_free : (b : Bool) (x : DiskRow) (rest : Option DiskRow) → x.holder ≡ None
           → cond b (Some x) rest ≡ Some d → (rest ≡ Some d → d.holder ≡ None) → d.holder ≡ None
-      one_free true x rest free e later = ap (λ (y : DiskRow). y.holder) (sym (some_same x d e)) ∙ free
+      one_free true x rest free e later = ap (λ (y : DiskRow). y.holder)
+          (sym (some_same x d e)) ∙ free
       one_free false x rest free e later = later e
 
 pub empty_stands : (lines : List DiskLine) → IsPlaced (empty_tree lines)
@@ -671,7 +616,8 @@ held_means_another t sub nsid h x path stands x_path off =
                 let mine' : IsTrue (holds_path t.disks x.at nsid x.row.device_path) =
                 subst (λ (j : ℕ). IsTrue (holds_path t.disks x.at j x.row.device_path)) same_nsid
                 mine in
-                off (live_right x.row.enabled (holds_path t.disks x.at nsid x.row.device_path) mine');
+                off (live_right x.row.enabled (holds_path t.disks x.at nsid x.row.device_path)
+                mine');
             x = here k.h.sub w.row;
             stands = w.stands;
             live = live_right w.row.enabled (holds_path t.disks k.h.sub k.h.nsid w.row.device_path)

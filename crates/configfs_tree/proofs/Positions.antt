@@ -1,10 +1,10 @@
 -- Names and positions lead to one row, and a live namespace's disk is found by its number.
-use Rattle.std.proofs.Common.{◌≡◌, ℕ, zero, suc, ◌+◌, ◌<◌, ◌==◌, ◌||◌, not, nat_lt, Bool, true, false, cond, List, [], ◌∷◌, length, Option, Some, None, refl, sym, ap, subst, ◌∙◌, IsTrue}
+use Rattle.std.proofs.Common.{◌≡◌, ℕ, zero, suc, ◌+◌, ◌<◌, ◌==◌, ◌||◌, not, Bool, true, false, cond, List, [], ◌∷◌, length, Option, Some, None, refl, sym, ap, subst, ◌∙◌, IsTrue}
 use Rattle.std.specs.Prelude.{IfSome}
 use Rattle.std.specs.List.{find, list_any, slice_get, position_or_len}
 use Rattle.std.specs.Str.{bytes_eq}
 use Rattle.std.proofs.lemmas.Slice.Eq.{bytes_eq-Decides}
-use Rattle.std.proofs.lemmas.Bool.{both_ways, eq-eqb, lt-ltb}
+use Rattle.std.proofs.lemmas.Bool.{eq-eqb, lt-ltb}
 use Rattle.std.proofs.lemmas.List.Folds.{find_at}
 use Rattle.std.proofs.lemmas.Option.{slice_get_within}
 use Rattle.std.specs.Ordering.{nat_cmp}
@@ -14,23 +14,23 @@ use Rattle.std.specs.FinMap as map
 use Rattle.std.specs.FinMap.{nat_cmp-IsAntisymmetric}
 use Rattle.configfs_rows.specs.declared.limits.TheConstants.{MAX_SUBSYSTEMS, MAX_PORTS}
 use Rattle.configfs_rows.specs.Nqns.{is_nqn, name_order}
-use Rattle.configfs_rows.specs.Holders.{disk_of, disk_path, number_of, paths_of, disk_number, holds_path}
+use Rattle.configfs_rows.specs.Holders.{disk_of, number_of, paths_of, disk_number, holds_path}
 use Rattle.configfs_rows.specs.declared.disks.DiskRow.{DiskRow}
-use Rattle.configfs_rows.specs.declared.disks.Holder.{Holder}
 use Rattle.configfs_rows.specs.declared.namespaces.NamespaceRow.{NamespaceRow}
 use Rattle.configfs_rows.specs.declared.subsystems.SubsystemRow.{SubsystemRow}
 use Rattle.configfs_rows.specs.declared.ports.PortRow.{PortRow}
 use Rattle.configfs_tree.specs.declared.configuration.Configuration.{Configuration}
 use Rattle.configfs_tree.specs.Asked.{subsystem_place_taken, port_place_taken}
-use Rattle.configfs_tree.specs.Links.{subsystem_row, port_row, subsystem_place, port_place, place_named, SubsystemPositions, PortPositions}
+use Rattle.configfs_tree.specs.Links.{subsystem_place, port_place, place_named, SubsystemPositions, PortPositions}
 use Rattle.configfs_tree.specs.Sound.{IsSound}
-use Rattle.configfs_tree.specs.Standing.{Placed, placed_row, placed_in, placed, is_live, IsPlaced, IsStanding, LiveHoldsDisk}
+use Rattle.configfs_tree.specs.Standing.{Placed, placed_row, placed_in, IsPlaced, IsStanding, LiveHoldsDisk}
 use Rattle.configfs_rows.proofs.Gets.{some_same, none_some}
 use Rattle.configfs_rows.proofs.Placing.{found_passes}
-use Rattle.configfs_rows.proofs.Each.{scan_found, scan_row}
+use Rattle.configfs_rows.proofs.Each.{scan_row}
 use Rattle.configfs_tree.proofs.Kept.{names_same}
 use Rattle.configfs_tree.proofs.Held.{here, path_of_holder, holding}
 use Rattle.configfs_tree.proofs.KeptTable.{live_holds}
+use Rattle.configfs_tree.proofs.SoundTable.{length_paths}
 use Rattle.configfs_tree.proofs.Stands.{own_subsystem, own_port}
 
 -- ---- positions in use
@@ -148,10 +148,6 @@ paths_found : (path : List ℕ) (disks : List DiskRow)
 paths_found path [] = refl
 paths_found path (d ∷ disks) = ap (λ n. cond (not (bytes_eq d.path path)) (1
     + n) 0) (paths_found path disks)
-
-length_paths : (disks : List DiskRow) → length (paths_of disks) ≡ length disks
-length_paths [] = refl
-length_paths (d ∷ disks) = ap (λ n. suc n) (length_paths disks)
 
 own_path_at : (path : List ℕ) (x d : DiskRow) (found : Option DiskRow) (b : Bool)
     → bytes_eq x.path path ≡ b → cond b (Some x) found ≡ Some d → (found ≡ Some d → d.path ≡ path)

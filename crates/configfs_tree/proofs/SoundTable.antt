@@ -1,9 +1,8 @@
 -- Each accepted edit keeps what stands of the rows.
-use Rattle.std.proofs.Common.{◌≡◌, ℕ, ◌&&◌, ◌||◌, ◌<◌, ◌≤◌, ◌+◌, ◌==◌, zero, suc, not, Bool, true, false, cond, List, [], ◌∷◌, length, Option, Some, None, is_some, nat_lt, nat_le, refl, sym, ap, subst, ◌∙◌, IsTrue, arith, codes}
+use Rattle.std.proofs.Common.{◌≡◌, ℕ, ◌&&◌, ◌||◌, ◌<◌, ◌≤◌, ◌+◌, ◌==◌, suc, Bool, true, false, cond, List, [], ◌∷◌, length, Option, Some, None, is_some, nat_lt, nat_le, refl, sym, ap, subst, ◌∙◌, IsTrue, arith, codes}
 use mathlib.Core.Logic.{⊎_elim}
-use Rattle.std.specs.List.{list_any}
 use Rattle.std.specs.Str.{bytes_eq}
-use Rattle.std.proofs.lemmas.Bool.{both_ways, lt-ltb, ltb-true, ltb-false, leb-true, lt-leb, le-leb, not-false, eq-eqb}
+use Rattle.std.proofs.lemmas.Bool.{both_ways, ltb-false, le-leb}
 use Rattle.std.specs.Ordering.{nat_cmp}
 use Rattle.std.specs.declared.cmp.Ordering.{Ordering}
 use Rattle.std.specs.Cmp.{nat_cmp_total}
@@ -14,15 +13,16 @@ use Rattle.uuid.specs.Text.{parsed}
 use Rattle.sqe_cqe.specs.Anas.{ana_named}
 use Rattle.sqe_cqe.specs.declared.rows.Ana.{Ana}
 use Rattle.sqe_cqe.specs.declared.rows.Ana.TheVariants as state
-use Rattle.configfs_rows.specs.declared.limits.TheConstants.{MAX_HOSTS, MAX_SUBSYSTEMS, MAX_PORTS, MAX_NSID, MAX_ANA_GROUPS, SERIAL_LEN, MODEL_LEN, TRADDR_LEN, TRSVCID_LEN}
+use Rattle.configfs_rows.specs.declared.limits.TheConstants.{MAX_HOSTS, MAX_SUBSYSTEMS, MAX_PORTS, MAX_ANA_GROUPS, SERIAL_LEN, MODEL_LEN, TRADDR_LEN, TRSVCID_LEN}
+use Rattle.sqe_cqe.specs.declared.rows.TheConstants.{MAX_NSID}
 use Rattle.configfs_rows.specs.Nqns.{name_order, is_nqn, discovery_nqn}
-use Rattle.configfs_rows.specs.Maps.{update_at, kept_or_taken}
+use Rattle.configfs_rows.specs.Maps.{update_at}
 use Rattle.configfs_rows.specs.Rows.{put_in, fresh_namespace}
-use Rattle.configfs_rows.specs.Subsystems.{fresh_subsystem, put_in_subsystem, put_allowed, put_namespace, add_namespace, remove_namespace}
-use Rattle.configfs_rows.specs.Ports.{fresh_port, address_of, with_address, put_link, put_group, remove_group}
+use Rattle.configfs_rows.specs.Subsystems.{fresh_subsystem, put_in_subsystem, put_namespace, add_namespace, remove_namespace}
+use Rattle.configfs_rows.specs.Ports.{fresh_port, address_of, with_address, put_group, remove_group}
 use Rattle.configfs_rows.specs.Places.{lowest_free}
-use Rattle.configfs_rows.specs.Holders.{hold, number_of, disk_number, paths_of, disk_path, are_apart, path_or_empty}
-use Rattle.configfs_rows.specs.Values.{is_text, is_short, is_path, is_trtype, is_adrfam, is_treq, group_named}
+use Rattle.configfs_rows.specs.Holders.{hold, number_of, paths_of, are_apart, path_or_empty}
+use Rattle.configfs_rows.specs.Values.{is_text, is_short, is_path, is_trtype, group_named}
 use Rattle.configfs_rows.specs.declared.disks.DiskRow.{DiskRow}
 use Rattle.configfs_rows.specs.declared.disks.Holder.{Holder}
 use Rattle.configfs_rows.specs.declared.namespaces.NamespaceRow.{NamespaceRow}
@@ -43,58 +43,29 @@ use Rattle.configfs_tree.specs.declared.edits.Folder.TheVariants as folder
 use Rattle.configfs_tree.specs.declared.edits.FolderEdit.{FolderEdit}
 use Rattle.configfs_tree.specs.declared.edits.FolderEdit.TheVariants as edit
 use Rattle.configfs_tree.specs.declared.configuration.Configuration.{Configuration}
-use Rattle.configfs_tree.specs.Asked.{fits, has_name, is_named, is_fitting, some_port_links, some_subsystem_allows, controller_at_subsystem, subsystem_place_taken, port_place_taken}
+use Rattle.configfs_tree.specs.Asked.{fits, has_name, is_named, is_fitting, some_port_links, controller_at_subsystem, subsystem_place_taken, port_place_taken}
 use Rattle.configfs_tree.specs.Outcome.{Outcome, unless_stands, with_settings, on_subsystem, on_port, counted}
-use Rattle.configfs_tree.specs.Sound.{NamespaceStands, SubsystemStands, PortStands, EachSubsystem, IsSound, Hosts, is_address, is_kept_path}
-use Rattle.configfs_tree.specs.Table.{mkdir, rmdir, set, set_of_subsystem, set_of_namespace, set_of_port, set_of_group, edit_outcome, put_on, put_group_of, put_state, set_address, disabled, enabled}
+use Rattle.configfs_tree.specs.Sound.{NamespaceStands, SubsystemStands, PortStands, EachSubsystem, IsSound, Hosts, is_address}
+use Rattle.configfs_tree.specs.Table.{mkdir, rmdir, set, set_of_subsystem, set_of_namespace, set_of_port, set_of_group, edit_outcome, put_on, put_group_of, put_state, set_address}
 use Rattle.configfs_tree.specs.Table.{mkdir_host, mkdir_subsystem, mkdir_namespace, mkdir_port, mkdir_ana_group, rmdir_host, rmdir_subsystem, rmdir_namespace, rmdir_port, rmdir_ana_group}
 use Rattle.configfs_tree.specs.Table.{set_attr_allow_any_host, set_attr_serial, set_attr_model, set_device_path, set_identifier, set_ana_grpid, set_enable, set_addr_trtype, set_addr_adrfam, set_addr_treq, set_addr_traddr, set_addr_trsvcid, set_ana_state}
 use Rattle.configfs_rows.proofs.Gets.{some_same, none_some}
-use Rattle.configfs_rows.proofs.Texts.{left_true, right_true, group_in_range}
-use Rattle.configfs_rows.proofs.Each.{EachRow, each_inserted, each_removed, each_updated, had_inserted, had_removed, had_updated, has_inserted, has_removed, none_there, len_inserted, len_removed, none_passing}
-use Rattle.configfs_tree.proofs.Kept.{Rows, names_same, none_of_test}
+use Rattle.configfs_rows.proofs.Texts.{right_true, group_in_range}
+use Rattle.configfs_rows.proofs.Each.{each_inserted, each_removed, each_updated, had_inserted, had_removed, had_updated, has_inserted, has_removed, none_there, len_inserted, len_removed, none_passing}
+use Rattle.configfs_tree.proofs.Kept.{Rows, names_same}
 use Rattle.configfs_tree.proofs.Slots.{Ports}
-use Rattle.configfs_tree.proofs.Holds.{Holds, refuses, holds_row, holds_end, holds_last, holds_either, holds_unless, holds_if_subsystem, holds_if_namespace, holds_if_port, holds_if_group, holds_parsed}
+use Rattle.configfs_tree.proofs.Tests.{left_false, both, not_no, room_of, low_of, high_of, filled_of}
+use Rattle.configfs_tree.specs.declared.configuration.Attached.{Attached}
+use Rattle.configfs_tree.proofs.Holds.{Holds, refuses, holds_row, holds_end, holds_last, holds_either, holds_unless, holds_if_subsystem, holds_if_rows, holds_if_port, holds_if_group, holds_parsed}
 
 abbrev pub Sounds : Outcome → Type 0
 Sounds o = Holds (λ u change. IsSound u) o
 
 -- ---- tests
-left_no : (a b : Bool) → (a || b) ≡ false → a ≡ false
-left_no true b e = e
-left_no false b e = refl
-
-right_no : (a b : Bool) → (a || b) ≡ false → b ≡ false
-right_no true b e = absurd (both_ways true e refl)
-right_no false b e = e
-
-both : (a b : Bool) → a ≡ true → b ≡ true → (a && b) ≡ true
-both true b e f = f
-both false b e f = e
-
-not_no : (b : Bool) → not b ≡ false → b ≡ true
-not_no true e = refl
-not_no false e = sym e
-
-room_of : (a b : ℕ) → not (nat_lt a b) ≡ false → a < b
-room_of a b e = ltb-true a b (not_no (nat_lt a b) e)
-
--- a number that is neither 0 nor above a limit
-low_of : (n most : ℕ) → ((n == 0) || nat_lt most n) ≡ false → 1 ≤ n
-low_of zero most e = absurd (both_ways true e refl)
-low_of (suc n) most e = omega arith
-
-high_of : (n most : ℕ) → ((n == 0) || nat_lt most n) ≡ false → n ≤ most
-high_of n most e = ltb-false most n (right_no (n == 0) (nat_lt most n) e)
-
 short_of : (value : List ℕ) (most : ℕ) → IsTrue (is_text value) → nat_lt most (length value) ≡ false
     → IsTrue (is_short value most)
 short_of value most text e = let le : length value ≤ most = ltb-false most (length value) e in
     both (is_text value) (nat_le (length value) most) text (le-leb (length value) most le)
-
-filled_of : (n : ℕ) → (n == 0) ≡ false → nat_lt 0 n ≡ true
-filled_of zero e = absurd (both_ways true e refl)
-filled_of (suc n) e = let lt : 0 < suc n = omega arith in lt-ltb 0 (suc n) lt
 
 -- ---- the disks' paths stand
 hold_paths_at : (q : List ℕ) (h : Option Holder) (d : DiskRow) (disks : List DiskRow) (b : Bool)
@@ -115,7 +86,7 @@ hold_paths q h [] = refl
 hold_paths q h (d ∷ disks) = hold_paths_at q h d disks (bytes_eq d.path q) refl
     (hold_paths q h disks)
 
-length_paths : (disks : List DiskRow) → length (paths_of disks) ≡ length disks
+pub length_paths : (disks : List DiskRow) → length (paths_of disks) ≡ length disks
 length_paths [] = refl
 length_paths (d ∷ disks) = ap (λ n. suc n) (length_paths disks)
 
@@ -138,8 +109,9 @@ disks_held t q h s = record {
 }
 
 -- ---- one part of a configuration changes
-pub count_sound : (t : Configuration) → IsSound t → IsSound (counted t)
-count_sound t s = record {
+pub sound_beside : (t : Configuration) (attached : Attached) (count : ℕ) → IsSound t
+    → IsSound (with_settings t (record t.settings { attached = attached; ana_count = count }))
+sound_beside t attached count s = record {
   few_hosts = s.few_hosts;
   hosts = s.hosts;
   few_disks = s.few_disks;
@@ -147,6 +119,10 @@ count_sound t s = record {
   subsystems = s.subsystems;
   ports = s.ports;
 }
+
+-- one more ANA change
+count_sound : (t : Configuration) → IsSound t → IsSound (counted t)
+count_sound t s = sound_beside t t.settings.attached (counted t).settings.ana_count s
 
 -- ports stand where the subsystems that they link stay
 ports_over : (m w : Rows) (p : PortRow) → ((sub : List ℕ) → IsTrue (map.contains_key p.links sub)
@@ -347,25 +323,40 @@ f_mkdir_port t id s = holds_row _ _ _ _ (λ _. holds_last _ _ _ _ (λ _.
     t.settings.subsystems p) m id v (port_fresh t.settings.subsystems id
     (lowest_free MAX_PORTS 0 (port_place_taken t))) s.ports) s))
 
--- a port with another state at a group in range
+-- a port with other links and groups has its addresses
+pub addresses_beside : (p : PortRow) (links : Hosts) (groups : FinMap nat_cmp Ana)
+    → ((a : Address) → IsTrue (is_address a (address_of a p))) → (a : Address)
+    → IsTrue (is_address a (address_of a (record p { links = links; groups = groups })))
+addresses_beside p links groups h address.Trtype = h address.Trtype
+addresses_beside p links groups h address.Adrfam = h address.Adrfam
+addresses_beside p links groups h address.Traddr = h address.Traddr
+addresses_beside p links groups h address.Trsvcid = h address.Trsvcid
+addresses_beside p links groups h address.Treq = h address.Treq
+
+-- a port with a group in range put, or with one taken away
 group_put : (m : Rows) (group : ℕ) (new : Ana) (p : PortRow) → 1 ≤ group → group ≤ MAX_ANA_GROUPS
     → PortStands m p → PortStands m (put_group group new p)
 group_put m group new p low high h = record {
-  addresses = same_addresses h.addresses;
-  group_low = λ g a e. (each_inserted nat_cmp_total nat_cmp-IsAntisymmetric
-      (λ (j : ℕ) (b : Ana). 1 ≤ j) p.groups group new low h.group_low) g a e;
-  group_high = λ g a e. (each_inserted nat_cmp_total nat_cmp-IsAntisymmetric
-      (λ (j : ℕ) (b : Ana). j ≤ MAX_ANA_GROUPS) p.groups group new high h.group_high) g a e;
+  addresses = addresses_beside p p.links (map.insert p.groups group new) h.addresses;
+  group_low = each_inserted nat_cmp_total nat_cmp-IsAntisymmetric
+      (λ (j : ℕ) (b : Ana). 1 ≤ j) p.groups group new low h.group_low;
+  group_high = each_inserted nat_cmp_total nat_cmp-IsAntisymmetric
+      (λ (j : ℕ) (b : Ana). j ≤ MAX_ANA_GROUPS) p.groups group new high h.group_high;
   links = h.links;
   loop = h.loop;
-} where
-  same_addresses : ((a : Address) → IsTrue (is_address a (address_of a p))) → (a : Address)
-      → IsTrue (is_address a (address_of a (put_group group new p)))
-  same_addresses k address.Trtype = k address.Trtype
-  same_addresses k address.Adrfam = k address.Adrfam
-  same_addresses k address.Traddr = k address.Traddr
-  same_addresses k address.Trsvcid = k address.Trsvcid
-  same_addresses k address.Treq = k address.Treq
+}
+
+group_gone : (m : Rows) (group : ℕ) (p : PortRow) → PortStands m p
+    → PortStands m (remove_group group p)
+group_gone m group p h = record {
+  addresses = addresses_beside p p.links (map.remove p.groups group) h.addresses;
+  group_low = each_removed nat_cmp_total nat_cmp-IsAntisymmetric
+      (λ (j : ℕ) (b : Ana). 1 ≤ j) p.groups group h.group_low;
+  group_high = each_removed nat_cmp_total nat_cmp-IsAntisymmetric
+      (λ (j : ℕ) (b : Ana). j ≤ MAX_ANA_GROUPS) p.groups group h.group_high;
+  links = h.links;
+  loop = h.loop;
+}
 
 f_mkdir_ana_group : (t : Configuration) (id group : ℕ) → IsSound t
     → Sounds (mkdir_ana_group t id group)
@@ -418,18 +409,17 @@ f_rmdir_subsystem t sub s = holds_if_subsystem _ _ (λ x e. holds_row _ _ _ _
     (λ id p f q linked had. had_removed nat_list_cmp_total names_same m sub q
     (λ is. none_passing nat_cmp_total nat_cmp-IsAntisymmetric
     (λ (r : PortRow). map.contains_key r.links sub) t.settings.ports id p
-    (left_no (some_port_links t sub) (controller_at_subsystem t x) unused) f
+    (left_false (some_port_links t sub) (controller_at_subsystem t x) unused) f
     (ap (λ (k : List ℕ). map.contains_key p.links k) (sym is) ∙ linked)) had) s)))
 
 f_rmdir_namespace : (t : Configuration) (sub : List ℕ) (nsid : ℕ) → IsSound t
     → Sounds (rmdir_namespace t sub nsid)
 unfolding rmdir_namespace
-f_rmdir_namespace t sub nsid s = holds_if_subsystem _ _ (λ row e. holds_if_namespace _ _
-    (λ n f. holds_last _ _ _ _ (λ _.
+f_rmdir_namespace t sub nsid s = holds_if_rows _ _ _ (λ row e n f. holds_last _ _ _ _ (λ _.
     subsystem_sound t sub (remove_namespace nsid)
     (λ x _ h. spaces_stand t.settings.hosts (paths_of t.disks) sub x (map.remove x.namespaces nsid)
     (each_removed nat_cmp_total nat_cmp-IsAntisymmetric (λ (j : ℕ) (r : NamespaceRow).
-    NamespaceStands (paths_of t.disks) j r) x.namespaces nsid h.namespaces) h) s)))
+    NamespaceStands (paths_of t.disks) j r) x.namespaces nsid h.namespaces) h) s))
 
 f_rmdir_port : (t : Configuration) (id : ℕ) → IsSound t → Sounds (rmdir_port t id)
 unfolding rmdir_port
@@ -437,25 +427,6 @@ f_rmdir_port t id s = holds_if_port _ _ (λ p e. holds_row _ _ _ _ (λ _. holds_
     port_sound t (map.remove t.settings.ports id)
     (each_removed nat_cmp_total nat_cmp-IsAntisymmetric (λ (q : ℕ) (r : PortRow). PortStands
     t.settings.subsystems r) t.settings.ports id s.ports) s)))
-
-group_gone : (m : Rows) (group : ℕ) (p : PortRow) → PortStands m p
-    → PortStands m (remove_group group p)
-group_gone m group p h = record {
-  addresses = same_addresses h.addresses;
-  group_low = λ g a e. (each_removed nat_cmp_total nat_cmp-IsAntisymmetric
-      (λ (j : ℕ) (b : Ana). 1 ≤ j) p.groups group h.group_low) g a e;
-  group_high = λ g a e. (each_removed nat_cmp_total nat_cmp-IsAntisymmetric
-      (λ (j : ℕ) (b : Ana). j ≤ MAX_ANA_GROUPS) p.groups group h.group_high) g a e;
-  links = h.links;
-  loop = h.loop;
-} where
-  same_addresses : ((a : Address) → IsTrue (is_address a (address_of a p))) → (a : Address)
-      → IsTrue (is_address a (address_of a (remove_group group p)))
-  same_addresses k address.Trtype = k address.Trtype
-  same_addresses k address.Adrfam = k address.Adrfam
-  same_addresses k address.Traddr = k address.Traddr
-  same_addresses k address.Trsvcid = k address.Trsvcid
-  same_addresses k address.Treq = k address.Treq
 
 f_rmdir_ana_group : (t : Configuration) (id group : ℕ) → IsSound t
     → Sounds (rmdir_ana_group t id group)
@@ -493,7 +464,7 @@ f_set_of_subsystem t sub attr.Serial value text s =
     (λ x f h. record {
       nqn = h.nqn;
       not_discovery = h.not_discovery;
-      serial = short_of value SERIAL_LEN text (left_no (nat_lt SERIAL_LEN (length value))
+      serial = short_of value SERIAL_LEN text (left_false (nat_lt SERIAL_LEN (length value))
           (controller_at_subsystem t r) fine);
       model_name = h.model_name;
       any_host = h.any_host;
@@ -527,7 +498,7 @@ f_set_device_path : (t : Configuration) (sub : List ℕ) (nsid : ℕ) (value : L
     → IsTrue (is_text value) → IsSound t → Sounds (set_device_path t sub nsid value)
 unfolding set_device_path
 f_set_device_path t sub nsid value text s =
-    holds_if_subsystem _ _ (λ r e. holds_if_namespace _ _ (λ n f. holds_row _ _ _ _
+    holds_if_rows _ _ _ (λ r e n f. holds_row _ _ _ _
     (λ _. holds_end _ _ _ (λ good. holds_unless _ t _ _ s (λ _.
     space_sound t sub nsid (Path value (number_of value (paths_of t.disks)))
     (λ m h. record {
@@ -538,13 +509,13 @@ f_set_device_path t sub nsid value text s =
       path = both (is_text value) (is_path value) text
           (not_no (is_path value) good);
       disk = refl;
-    }) s)))))
+    }) s))))
 
 f_set_identifier : (t : Configuration) (sub : List ℕ) (nsid : ℕ) (which : Identifier)
     (value : List ℕ) → IsSound t → Sounds (set_identifier t sub nsid which value)
 unfolding set_identifier
 f_set_identifier t sub nsid which value s =
-    holds_if_subsystem _ _ (λ r e. holds_if_namespace _ _ (λ n f. holds_end _ _ _
+    holds_if_rows _ _ _ (λ r e n f. holds_end _ _ _
     (λ _. holds_parsed (parsed value) (λ (bytes : List ℕ). unless_stands
     (bytes_eq (identifier_of which n) bytes) t (put_on t sub r.at nsid (NewIdentifier which bytes)))
     (λ bytes. holds_unless _ t _ _ s (λ _.
@@ -555,7 +526,7 @@ f_set_identifier t sub nsid which value s =
       group_high = h.group_high;
       path = h.path;
       disk = h.disk;
-    }) s)))))
+    }) s))))
 
 sounds_group_of : (t : Configuration) (sub : List ℕ) (nsid : ℕ) (r : SubsystemRow)
     (n : NamespaceRow) (value : List ℕ) (group : Option ℕ) → group_named value ≡ group → IsSound t
@@ -577,8 +548,8 @@ sounds_group_of t sub nsid r n value (Some group) named s = holds_unless _ t _ _
 f_set_ana_grpid : (t : Configuration) (sub : List ℕ) (nsid : ℕ) (value : List ℕ) → IsSound t
     → Sounds (set_ana_grpid t sub nsid value)
 unfolding set_ana_grpid
-f_set_ana_grpid t sub nsid value s = holds_if_subsystem _ _ (λ r e. holds_if_namespace _ _
-    (λ n f. sounds_group_of t sub nsid r n value (group_named value) refl s))
+f_set_ana_grpid t sub nsid value s = holds_if_rows _ _ _ (λ r e n f.
+    sounds_group_of t sub nsid r n value (group_named value) refl s)
 
 enabled_sound : (t : Configuration) (sub : List ℕ) (nsid : ℕ) (on : Bool) → IsSound t
     → IsSound (on_subsystem t sub (put_namespace nsid (Enabled on)))
@@ -595,8 +566,7 @@ enabled_sound t sub nsid on s = space_sound t sub nsid (Enabled on) (λ m h. rec
 pub f_set_enable : (t : Configuration) (sub : List ℕ) (nsid : ℕ) (value : List ℕ) → IsSound t
     → Sounds (set_enable t sub nsid value)
 unfolding set_enable
-f_set_enable t sub nsid value s = holds_if_subsystem _ _ (λ r e. holds_if_namespace _ _
-    (λ n f. holds_either _ _ _
+f_set_enable t sub nsid value s = holds_if_rows _ _ _ (λ r e n f. holds_either _ _ _
     (holds_unless _ t _ _ s (λ _. enabled_sound t sub nsid false s))
     (holds_row _ _ _ _ (λ _. holds_row _ _ _ _ (λ _. holds_row _ _ _ _
     (λ _. holds_end _ _ _ (λ _. holds_unless _ t _ _ s (λ _.
@@ -604,7 +574,7 @@ f_set_enable t sub nsid value s = holds_if_subsystem _ _ (λ r e. holds_if_names
     (path_or_empty n.device_path) (Some (record {
       sub = r.at;
       nsid = nsid;
-    })) (enabled_sound t sub nsid true s)))))))))
+    })) (enabled_sound t sub nsid true s))))))))
 
 f_set_of_namespace : (t : Configuration) (sub : List ℕ) (nsid : ℕ) (a : Attr) (value : List ℕ)
     → IsTrue (is_text value) → IsSound t → Sounds (set_of_namespace t sub nsid a value)
@@ -623,45 +593,19 @@ put_address : (a b : Address) (value : List ℕ) (p : PortRow) → IsTrue (is_ad
     → ((c : Address) → IsTrue (is_address c (address_of c p)))
     → IsTrue (is_address a (address_of a (with_address b value p)))
 put_address address.Trtype address.Trtype value p good h = good
-put_address address.Adrfam address.Trtype value p good h = h address.Adrfam
-put_address address.Traddr address.Trtype value p good h = h address.Traddr
-put_address address.Trsvcid address.Trtype value p good h = h address.Trsvcid
-put_address address.Treq address.Trtype value p good h = h address.Treq
-put_address address.Trtype address.Adrfam value p good h = h address.Trtype
 put_address address.Adrfam address.Adrfam value p good h = good
-put_address address.Traddr address.Adrfam value p good h = h address.Traddr
-put_address address.Trsvcid address.Adrfam value p good h = h address.Trsvcid
-put_address address.Treq address.Adrfam value p good h = h address.Treq
-put_address address.Trtype address.Traddr value p good h = h address.Trtype
-put_address address.Adrfam address.Traddr value p good h = h address.Adrfam
 put_address address.Traddr address.Traddr value p good h = good
-put_address address.Trsvcid address.Traddr value p good h = h address.Trsvcid
-put_address address.Treq address.Traddr value p good h = h address.Treq
-put_address address.Trtype address.Trsvcid value p good h = h address.Trtype
-put_address address.Adrfam address.Trsvcid value p good h = h address.Adrfam
-put_address address.Traddr address.Trsvcid value p good h = h address.Traddr
 put_address address.Trsvcid address.Trsvcid value p good h = good
-put_address address.Treq address.Trsvcid value p good h = h address.Treq
-put_address address.Trtype address.Treq value p good h = h address.Trtype
-put_address address.Adrfam address.Treq value p good h = h address.Adrfam
-put_address address.Traddr address.Treq value p good h = h address.Traddr
-put_address address.Trsvcid address.Treq value p good h = h address.Trsvcid
 put_address address.Treq address.Treq value p good h = good
+put_address a b value p good h = h a
 
-same_links : (b : Address) (value : List ℕ) (p : PortRow) → (with_address b value p).links ≡ p.links
-same_links address.Trtype value p = refl
-same_links address.Adrfam value p = refl
-same_links address.Traddr value p = refl
-same_links address.Trsvcid value p = refl
-same_links address.Treq value p = refl
-
-same_groups : (b : Address) (value : List ℕ) (p : PortRow) → (with_address b value p).groups
-    ≡ p.groups
-same_groups address.Trtype value p = refl
-same_groups address.Adrfam value p = refl
-same_groups address.Traddr value p = refl
-same_groups address.Trsvcid value p = refl
-same_groups address.Treq value p = refl
+same_beside : (b : Address) (value : List ℕ) (p : PortRow) → ((with_address b value p).links
+    ≡ p.links) × ((with_address b value p).groups ≡ p.groups)
+same_beside address.Trtype value p = (refl, refl)
+same_beside address.Adrfam value p = (refl, refl)
+same_beside address.Traddr value p = (refl, refl)
+same_beside address.Trsvcid value p = (refl, refl)
+same_beside address.Treq value p = (refl, refl)
 
 address_put : (m : Rows) (b : Address) (value : List ℕ) (p : PortRow) → IsTrue (is_address b value)
     → nat_lt 0 (map.len p.links) ≡ false → PortStands m p → PortStands m (with_address b value p)
@@ -671,13 +615,13 @@ address_put m b value p good unlinked h =
     record {
       addresses = λ a. put_address a b value p good h.addresses;
       group_low = λ g a e. h.group_low g a (sym (ap (λ (gs : FinMap nat_cmp Ana). map.get gs g)
-          (same_groups b value p)) ∙ e);
+          (same_beside b value p).1) ∙ e);
       group_high = λ g a e. h.group_high g a (sym (ap (λ (gs : FinMap nat_cmp Ana). map.get gs g)
-          (same_groups b value p)) ∙ e);
+          (same_beside b value p).1) ∙ e);
       links = λ sub has. absurd (none_there nat_list_cmp_total names_same p.links sub empty
-          (sym (ap (λ (ls : Hosts). map.contains_key ls sub) (same_links b value p)) ∙ has));
+          (sym (ap (λ (ls : Hosts). map.contains_key ls sub) (same_beside b value p).0) ∙ has));
       loop = λ sub has. absurd (none_there nat_list_cmp_total names_same p.links sub empty
-          (sym (ap (λ (ls : Hosts). map.contains_key ls sub) (same_links b value p)) ∙ has));
+          (sym (ap (λ (ls : Hosts). map.contains_key ls sub) (same_beside b value p).0) ∙ has));
     }
 
 sounds_address : (t : Configuration) (id : ℕ) (b : Address) (good : Bool) (value : List ℕ)

@@ -1,9 +1,7 @@
 -- Each call of a tree keeps its standing facts.
-use Rattle.std.proofs.Common.{◌≡◌, ℕ, ◌&&◌, ◌==◌, ◌≤◌, Bool, true, false, List, [], ◌∷◌, length, map as map_list, Option, Some, None, is_some, nat_le, refl, sym, ap, subst, ◌∙◌, IsTrue, arith, Result, Ok, Err, codes}
+use Rattle.std.proofs.Common.{◌≡◌, ℕ, ◌==◌, ◌≤◌, Bool, true, false, List, [], ◌∷◌, length, map as map_list, Option, Some, None, is_some, nat_le, refl, sym, ap, subst, ◌∙◌, IsTrue, arith, Result, Ok, Err, codes}
 use mathlib.Core.Logic.{⊎_elim}
 use Rattle.std.specs.Prelude.{OnOk, OnErr, IfOk}
-use Rattle.std.specs.List.{find}
-use Rattle.std.specs.Str.{bytes_eq}
 use Rattle.std.proofs.lemmas.Slice.Eq.{bytes_eq-Decides}
 use Rattle.std.proofs.lemmas.Bool.{both_ways, leb-true}
 use Rattle.std.proofs.lemmas.List.{length-map}
@@ -13,17 +11,14 @@ use Rattle.std.specs.Cmp.Lexicographic.{nat_list_cmp_total}
 use Rattle.std.specs.FinMap as map
 use Rattle.std.specs.FinMap.{FinMap, nat_cmp-IsAntisymmetric}
 use Rattle.mem_bdev.specs.declared.disk.DiskLine.{DiskLine}
-use Rattle.configfs_rows.specs.declared.limits.TheConstants.{MAX_DISKS, MAX_SUBSYSTEMS, MAX_PORTS}
+use Rattle.configfs_rows.specs.declared.limits.TheConstants.{MAX_DISKS}
 use Rattle.configfs_rows.specs.Nqns.{name_order}
-use Rattle.configfs_rows.specs.Maps.{kept_or_taken}
 use Rattle.configfs_rows.specs.Subsystems.{put_allowed}
-use Rattle.configfs_rows.specs.Ports.{put_link, address_of}
+use Rattle.configfs_rows.specs.Ports.{put_link}
 use Rattle.configfs_rows.specs.Holders.{are_apart, paths_of}
 use Rattle.configfs_rows.specs.declared.namespaces.NamespaceRow.{NamespaceRow}
 use Rattle.configfs_rows.specs.declared.subsystems.SubsystemRow.{SubsystemRow}
 use Rattle.configfs_rows.specs.declared.ports.PortRow.{PortRow}
-use Rattle.configfs_rows.specs.declared.ports.Address.{Address}
-use Rattle.configfs_rows.specs.declared.ports.Address.TheVariants as address
 use Rattle.configfs_tree.specs.declared.configuration.Configuration.{Configuration}
 use Rattle.configfs_tree.specs.declared.configuration.Attached.{Attached}
 use Rattle.configfs_tree.specs.declared.edits.Change.{Change}
@@ -33,22 +28,23 @@ use Rattle.configfs_tree.specs.declared.edits.Refused.TheVariants as refused
 use Rattle.configfs_tree.specs.declared.edits.FolderEdit.{FolderEdit}
 use Rattle.configfs_rows.specs.declared.namespaces.Phase.TheVariants as phase
 use Rattle.configfs_tree.specs.Asked.{is_fitting, is_named, may_grow}
-use Rattle.configfs_tree.specs.Drained.{freed_path, freed_by, freed_in, drained}
+use Rattle.configfs_tree.specs.NamespaceRows.{rows_of}
+use Rattle.configfs_tree.specs.Drained.{freed_path, freed_by, drained}
 use Rattle.configfs_tree.specs.Gives.{Gives, GivesErrno}
 use Rattle.configfs_tree.specs.Links.{allowed_in, linked_in, subsystem_row, port_row, allows_any, is_loop, with_no_changes}
 use Rattle.configfs_tree.specs.Outcome.{Outcome, with_settings}
 use Rattle.configfs_tree.specs.Phases.{phase_at}
-use Rattle.configfs_tree.specs.Sound.{SubsystemStands, PortStands, IsSound, Hosts, is_address}
+use Rattle.configfs_tree.specs.Sound.{SubsystemStands, PortStands, IsSound, Hosts}
 use Rattle.configfs_tree.specs.Standing.{IsPlaced, IsStanding}
 use Rattle.configfs_tree.specs.Start.{are_disks, line_path, free_disk, empty_tree}
 use Rattle.configfs_tree.specs.Table.{edit_outcome, set_enable}
 use Rattle.configfs_rows.proofs.Gets.{some_same, none_some}
 use Rattle.configfs_rows.proofs.Texts.{left_true, right_true}
 use Rattle.configfs_rows.proofs.Each.{scan_found, has_inserted, has_removed, len_removed}
-use Rattle.configfs_tree.proofs.Kept.{names_same}
+use Rattle.configfs_tree.proofs.Kept.{names_same, changed_beside}
 use Rattle.configfs_tree.proofs.Holds.{Holds, accepted}
-use Rattle.configfs_tree.proofs.KeptTable.{edit_keeps, k_set_enable, loaded_stands, any_attached, drained_stands, empty_stands, allowed_stands, linked_stands}
-use Rattle.configfs_tree.proofs.SoundTable.{disks_held, edit_sounds, f_set_enable, subsystem_sound, on_port_sound}
+use Rattle.configfs_tree.proofs.KeptTable.{edit_keeps, k_set_enable, drained_stands, empty_stands, allowed_stands, linked_stands}
+use Rattle.configfs_tree.proofs.SoundTable.{disks_held, edit_sounds, f_set_enable, subsystem_sound, on_port_sound, sound_beside, addresses_beside}
 
 -- ---- what an outcome's tree has, a call leaves
 pub given : (P : Configuration → Type 0) (grows : Bool) (o : Outcome) (old : Configuration)
@@ -108,49 +104,32 @@ freed_sound : (t : Configuration) (q : Option (List ℕ)) → IsSound t → IsSo
 freed_sound t None s = s
 freed_sound t (Some path) s = disks_held t path None s
 
-freed_by_sound : (t : Configuration) (n : Option NamespaceRow) → IsSound t → IsSound (freed_by t n)
+freed_by_sound : (t : Configuration) (found : Option (SubsystemRow × NamespaceRow)) → IsSound t
+    → IsSound (freed_by t found)
 freed_by_sound t None s = s
-freed_by_sound t (Some n) s = freed_sound t n.device_path s
-
-freed_in_sound : (t : Configuration) (nsid : ℕ) (x : Option SubsystemRow) → IsSound t
-    → IsSound (freed_in t nsid x)
-freed_in_sound t nsid None s = s
-freed_in_sound t nsid (Some x) s = freed_by_sound t (map.get x.namespaces nsid) s
+freed_by_sound t (Some rows) s = freed_sound t rows.1.device_path s
 
 pub drain_stands : (t : Configuration) (sub : List ℕ) (nsid : ℕ)
     → phase_at t sub nsid ≡ Some phase.Draining → IsStanding t → IsStanding (drained t sub nsid)
 drain_stands t sub nsid draining h = record {
   placed = drained_stands t sub nsid draining h.placed;
-  sound = freed_in_sound t nsid (map.get t.settings.subsystems sub) h.sound;
+  sound = freed_by_sound t (rows_of t.settings sub nsid) h.sound;
 }
 
 -- ---- counts
-pub load_stands : (t : Configuration) → IsStanding t → IsStanding (with_no_changes t)
-load_stands t h = let s = h.sound in record {
-  placed = loaded_stands t h.placed;
-  sound = record {
-    few_hosts = s.few_hosts;
-    hosts = s.hosts;
-    few_disks = s.few_disks;
-    disks_apart = s.disks_apart;
-    subsystems = s.subsystems;
-    ports = s.ports;
-  };
+counts_stand : (t : Configuration) (attached : Attached) (count : ℕ) → IsStanding t
+    → IsStanding (with_settings t (record t.settings { attached = attached; ana_count = count }))
+counts_stand t attached count h = record {
+  placed = changed_beside t t.settings.hosts attached count h.placed;
+  sound = sound_beside t attached count h.sound;
 }
+
+pub load_stands : (t : Configuration) → IsStanding t → IsStanding (with_no_changes t)
+load_stands t h = counts_stand t t.settings.attached 0 h
 
 pub attach_stands : (t : Configuration) (attached : Attached) → IsStanding t
     → IsStanding (with_settings t (record t.settings { attached = attached }))
-attach_stands t attached h = let s = h.sound in record {
-  placed = any_attached t attached h.placed;
-  sound = record {
-    few_hosts = s.few_hosts;
-    hosts = s.hosts;
-    few_disks = s.few_disks;
-    disks_apart = s.disks_apart;
-    subsystems = s.subsystems;
-    ports = s.ports;
-  };
-}
+attach_stands t attached h = counts_stand t attached t.settings.ana_count h
 
 -- ---- the empty tree
 free_paths : (lines : List DiskLine) → paths_of (map_list free_disk lines)
@@ -252,7 +231,7 @@ link_one : (m : FinMap name_order SubsystemRow) (nqn : List ℕ) (linked : Bool)
     → IsTrue (map.contains_key m nqn) → (linked ≡ true → p.trtype ≡ codes "loop") → PortStands m p
     → PortStands m (put_link nqn linked p)
 link_one m nqn true p there loop h = record {
-  addresses = same_addresses true h.addresses;
+  addresses = addresses_beside p (map.insert p.links nqn tt) p.groups h.addresses;
   group_low = h.group_low;
   group_high = h.group_high;
   links = λ q has. ⊎_elim
@@ -260,28 +239,14 @@ link_one m nqn true p there loop h = record {
       (λ had. h.links q had)
       (has_inserted nat_list_cmp_total names_same p.links nqn tt q has);
   loop = λ q has. loop refl;
-} where
-  same_addresses : (b : Bool) → ((a : Address) → IsTrue (is_address a (address_of a p)))
-      → (a : Address) → IsTrue (is_address a (address_of a (put_link nqn b p)))
-  same_addresses b k address.Trtype = k address.Trtype
-  same_addresses b k address.Adrfam = k address.Adrfam
-  same_addresses b k address.Traddr = k address.Traddr
-  same_addresses b k address.Trsvcid = k address.Trsvcid
-  same_addresses b k address.Treq = k address.Treq
+}
 link_one m nqn false p there loop h = record {
-  addresses = same_addresses false h.addresses;
+  addresses = addresses_beside p (map.remove p.links nqn) p.groups h.addresses;
   group_low = h.group_low;
   group_high = h.group_high;
   links = λ q has. h.links q (has_removed nat_list_cmp_total names_same p.links nqn q has).1;
   loop = λ q has. h.loop q (has_removed nat_list_cmp_total names_same p.links nqn q has).1;
-} where
-  same_addresses : (b : Bool) → ((a : Address) → IsTrue (is_address a (address_of a p)))
-      → (a : Address) → IsTrue (is_address a (address_of a (put_link nqn b p)))
-  same_addresses b k address.Trtype = k address.Trtype
-  same_addresses b k address.Adrfam = k address.Adrfam
-  same_addresses b k address.Traddr = k address.Traddr
-  same_addresses b k address.Trsvcid = k address.Trsvcid
-  same_addresses b k address.Treq = k address.Treq
+}
 
 linked_sound : (t : Configuration) (linked : Bool) (port at : ℕ) (p : Option PortRow)
     (x : Option SubsystemRow) → port_row t port ≡ p → subsystem_row t at ≡ x

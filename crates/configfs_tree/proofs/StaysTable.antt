@@ -1,8 +1,6 @@
 -- Each accepted edit leaves the rows where controllers are attached.
-use Rattle.std.proofs.Common.{◌≡◌, ℕ, ◌&&◌, ◌||◌, ◌≤◌, nat_lt, nat_le, Bool, true, false, cond, List, Option, Some, None, refl, sym, ap, subst, ◌∙◌, arith, codes}
+use Rattle.std.proofs.Common.{◌≡◌, ℕ, Bool, true, false, List, Option, Some, None, refl, ap, ◌∙◌, codes}
 use Rattle.std.specs.Str.{bytes_eq}
-use Rattle.std.proofs.lemmas.Bool.{both_ways}
-use Rattle.std.specs.Ordering.{nat_cmp}
 use Rattle.std.specs.Cmp.{nat_cmp_total}
 use Rattle.std.specs.Cmp.Lexicographic.{nat_list_cmp_total}
 use Rattle.std.specs.FinMap as map
@@ -10,7 +8,6 @@ use Rattle.std.specs.FinMap.{nat_cmp-IsAntisymmetric}
 use Rattle.uuid.specs.Text.{parsed}
 use Rattle.configfs_rows.specs.declared.limits.TheConstants.{MAX_SUBSYSTEMS, MAX_PORTS}
 use Rattle.configfs_rows.specs.Maps.{update_at}
-use Rattle.configfs_rows.specs.Rows.{put_in, fresh_namespace}
 use Rattle.configfs_rows.specs.Subsystems.{fresh_subsystem, put_in_subsystem, put_namespace, add_namespace, remove_namespace}
 use Rattle.configfs_rows.specs.Ports.{fresh_port, with_address, put_group, remove_group}
 use Rattle.configfs_rows.specs.Places.{lowest_free}
@@ -20,7 +17,7 @@ use Rattle.sqe_cqe.specs.Anas.{ana_named}
 use Rattle.sqe_cqe.specs.declared.rows.Ana.{Ana}
 use Rattle.sqe_cqe.specs.declared.rows.Ana.TheVariants as state
 use Rattle.configfs_tree.specs.Asked.{some_port_links, controller_at_subsystem, subsystem_place_taken, port_place_taken}
-use Rattle.configfs_tree.specs.Outcome.{Outcome, on_subsystem, on_port, unless_stands}
+use Rattle.configfs_tree.specs.Outcome.{Outcome, on_subsystem, on_port, unless_stands, with_settings}
 use Rattle.configfs_tree.specs.Table.{mkdir_host, mkdir_subsystem, mkdir_namespace, mkdir_port, mkdir_ana_group, rmdir_host, rmdir_subsystem, rmdir_namespace, rmdir_port, rmdir_ana_group, set_attr_allow_any_host, set_attr_serial, set_attr_model, put_on, set_device_path, set_identifier, put_group_of, set_ana_grpid, set_enable, set_address, set_addr_trtype, set_addr_adrfam, set_addr_treq, set_addr_traddr, set_addr_trsvcid, put_state, set_ana_state, mkdir, rmdir, set_of_subsystem, set_of_namespace, set_of_port, set_of_group, set as set_outcome, edit_outcome}
 use Rattle.configfs_tree.specs.declared.configuration.Configuration.{Configuration}
 use Rattle.configfs_rows.specs.declared.disks.DiskRow.{DiskRow}
@@ -42,10 +39,11 @@ use Rattle.configfs_tree.specs.declared.edits.Folder.{Folder}
 use Rattle.configfs_tree.specs.declared.edits.Folder.TheVariants as folder
 use Rattle.configfs_tree.specs.declared.edits.FolderEdit.{FolderEdit}
 use Rattle.configfs_tree.specs.declared.edits.FolderEdit.TheVariants as edit
-use Rattle.configfs_rows.proofs.Gets.{some_same, none_some}
-use Rattle.configfs_tree.proofs.Kept.{Rows, names_same, none_of_test}
+use Rattle.configfs_tree.proofs.Kept.{Rows, names_same}
 use Rattle.configfs_tree.proofs.Slots.{Ports}
-use Rattle.configfs_tree.proofs.Holds.{Holds, refuses, holds_row, holds_end, holds_last, holds_either, holds_unless, holds_if_subsystem, holds_if_namespace, holds_if_port, holds_if_group, holds_parsed}
+use Rattle.configfs_tree.specs.Sound.{Hosts}
+use Rattle.configfs_tree.proofs.Tests.{none_of_test, right_false}
+use Rattle.configfs_tree.proofs.Holds.{Holds, refuses, holds_row, holds_end, holds_last, holds_either, holds_unless, holds_if_subsystem, holds_if_rows, holds_if_port, holds_if_group, holds_parsed}
 use Rattle.configfs_tree.specs.Stays.{is_subsystem_attached, is_port_attached, SubsystemAt, PortAt, Stays}
 use Rattle.configfs_rows.proofs.Each.{RowAt, StaysAt, stays_inserted, stays_removed, stays_updated}
 
@@ -117,14 +115,21 @@ port_put t id f count ats = ports_changed t (update_at t.settings.ports id f) co
     (stays_updated nat_cmp_total nat_cmp-IsAntisymmetric (λ (p : PortRow). p.at)
     (is_port_attached t) t.settings.ports id f ats)
 
--- ---- mkdir
-s_mkdir_host : (t : Configuration) (host : List ℕ) → StaysBy t (mkdir_host t host)
-unfolding mkdir_host
-s_mkdir_host t host = holds_row _ _ _ _ (λ _. holds_last _ _ _ _ (λ _. record {
+hosts_changed : (t : Configuration) (hosts : Hosts) → Stays t (with_settings t (record t.settings {
+  hosts =
+      hosts;
+}))
+hosts_changed t hosts = record {
   attached = refl;
   subsystems = λ sub at b x. record { row = x.row; found = x.found; at_is = x.at_is };
   ports = λ id at b x. record { row = x.row; found = x.found; at_is = x.at_is };
-}))
+}
+
+-- ---- mkdir
+s_mkdir_host : (t : Configuration) (host : List ℕ) → StaysBy t (mkdir_host t host)
+unfolding mkdir_host
+s_mkdir_host t host = holds_row _ _ _ _ (λ _. holds_last _ _ _ _ (λ _.
+    hosts_changed t (map.insert t.settings.hosts host tt)))
 
 s_mkdir_subsystem : (t : Configuration) (sub : List ℕ) → StaysBy t (mkdir_subsystem t sub)
 unfolding mkdir_subsystem
@@ -161,15 +166,8 @@ s_mkdir_ana_group t id group = holds_if_port _ _ (λ p e. holds_row _ _ _ _
 -- ---- rmdir
 s_rmdir_host : (t : Configuration) (host : List ℕ) → StaysBy t (rmdir_host t host)
 unfolding rmdir_host
-s_rmdir_host t host = holds_row _ _ _ _ (λ _. holds_last _ _ _ _ (λ _. record {
-  attached = refl;
-  subsystems = λ sub at b x. record { row = x.row; found = x.found; at_is = x.at_is };
-  ports = λ id at b x. record { row = x.row; found = x.found; at_is = x.at_is };
-}))
-
-right_false : (a b : Bool) → (a || b) ≡ false → b ≡ false
-right_false true b e = absurd (both_ways true e refl)
-right_false false b e = e
+s_rmdir_host t host = holds_row _ _ _ _ (λ _. holds_last _ _ _ _ (λ _.
+    hosts_changed t (map.remove t.settings.hosts host)))
 
 s_rmdir_subsystem : (t : Configuration) (sub : List ℕ) → StaysBy t (rmdir_subsystem t sub)
 unfolding rmdir_subsystem
@@ -184,9 +182,8 @@ s_rmdir_subsystem t sub = holds_if_subsystem _ _ (λ s e. holds_row _ _ _ _
 s_rmdir_namespace : (t : Configuration) (sub : List ℕ) (nsid : ℕ)
     → StaysBy t (rmdir_namespace t sub nsid)
 unfolding rmdir_namespace
-s_rmdir_namespace t sub nsid = holds_if_subsystem _ _ (λ s e. holds_if_namespace _ _
-    (λ n f. holds_last _ _ _ _ (λ free.
-    sub_put t sub (remove_namespace nsid) t.disks t.settings.ana_count (λ x. refl))))
+s_rmdir_namespace t sub nsid = holds_if_rows _ _ _ (λ s e n f. holds_last _ _ _ _ (λ free.
+    sub_put t sub (remove_namespace nsid) t.disks t.settings.ana_count (λ x. refl)))
 
 s_rmdir_port : (t : Configuration) (id : ℕ) → StaysBy t (rmdir_port t id)
 unfolding rmdir_port
@@ -237,19 +234,19 @@ plain_put t sub nsid put disks = sub_put t sub (put_namespace nsid put) disks t.
 s_set_device_path : (t : Configuration) (sub : List ℕ) (nsid : ℕ) (value : List ℕ)
     → StaysBy t (set_device_path t sub nsid value)
 unfolding set_device_path
-s_set_device_path t sub nsid value = holds_if_subsystem _ _ (λ s e. holds_if_namespace _ _
-    (λ n f. holds_row _ _ _ _ (λ free. holds_end _ _ _ (λ _. holds_unless _ t _ _ (stays t)
-    (λ _. plain_put t sub nsid (Path value (number_of value (paths_of t.disks))) t.disks)))))
+s_set_device_path t sub nsid value = holds_if_rows _ _ _ (λ s e n f.
+    holds_row _ _ _ _ (λ free. holds_end _ _ _ (λ _. holds_unless _ t _ _ (stays t)
+    (λ _. plain_put t sub nsid (Path value (number_of value (paths_of t.disks))) t.disks))))
 
 s_set_identifier : (t : Configuration) (sub : List ℕ) (nsid : ℕ) (which : Identifier)
     (value : List ℕ) → StaysBy t (set_identifier t sub nsid which value)
 unfolding set_identifier
 s_set_identifier t sub nsid which value =
-    holds_if_subsystem _ _ (λ s e. holds_if_namespace _ _ (λ n f. holds_end _ _ _
+    holds_if_rows _ _ _ (λ s e n f. holds_end _ _ _
     (λ _. holds_parsed (parsed value) (λ (bytes : List ℕ). unless_stands
     (bytes_eq (identifier_of which n) bytes) t (put_on t sub s.at nsid (NewIdentifier which bytes)))
     (λ bytes. holds_unless _ t _ _ (stays t) (λ _. plain_put t sub nsid (NewIdentifier which bytes)
-    t.disks)))))
+    t.disks))))
 
 s_group_of : (t : Configuration) (sub : List ℕ) (nsid : ℕ) (s : SubsystemRow) (n : NamespaceRow)
     (group : Option ℕ) → StaysBy t (put_group_of t sub nsid s n group)
@@ -261,18 +258,17 @@ s_group_of t sub nsid s n (Some group) =
 s_set_ana_grpid : (t : Configuration) (sub : List ℕ) (nsid : ℕ) (value : List ℕ)
     → StaysBy t (set_ana_grpid t sub nsid value)
 unfolding set_ana_grpid
-s_set_ana_grpid t sub nsid value = holds_if_subsystem _ _ (λ s e. holds_if_namespace _ _
-    (λ n f. s_group_of t sub nsid s n (group_named value)))
+s_set_ana_grpid t sub nsid value = holds_if_rows _ _ _ (λ s e n f.
+    s_group_of t sub nsid s n (group_named value))
 
 s_set_enable : (t : Configuration) (sub : List ℕ) (nsid : ℕ) (value : List ℕ)
     → StaysBy t (set_enable t sub nsid value)
 unfolding set_enable
-s_set_enable t sub nsid value = holds_if_subsystem _ _ (λ s e. holds_if_namespace _ _
-    (λ n f. holds_either _ _ _
+s_set_enable t sub nsid value = holds_if_rows _ _ _ (λ s e n f. holds_either _ _ _
     (holds_unless _ t _ _ (stays t) (λ _. plain_put t sub nsid (Enabled false) t.disks))
     (holds_row _ _ _ _ (λ _. holds_row _ _ _ _ (λ _. holds_row _ _ _ _
     (λ _. holds_end _ _ _ (λ _. holds_unless _ t _ _ (stays t)
-    (λ _. plain_put t sub nsid (Enabled true) _))))))))
+    (λ _. plain_put t sub nsid (Enabled true) _)))))))
 
 s_set_of_namespace : (t : Configuration) (sub : List ℕ) (nsid : ℕ) (a : Attr) (value : List ℕ)
     → StaysBy t (set_of_namespace t sub nsid a value)

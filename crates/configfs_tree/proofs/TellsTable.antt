@@ -1,5 +1,5 @@
 -- The change of each row of the table tells what differs.
-use Rattle.std.proofs.Common.{◌≡◌, ◌≤◌, ◌-◌, cond, arith, inl, inr, ℕ, ◌==◌, not, Bool, true, false, List, Option, Some, None, is_some, nat_lt, refl, sym, ap, subst, ◌∙◌, Result, Ok, Err, codes, IsTrue}
+use Rattle.std.proofs.Common.{◌≡◌, ◌≤◌, ◌-◌, cond, arith, inl, inr, ℕ, ◌==◌, not, Bool, true, false, List, Option, Some, None, is_some, nat_lt, refl, sym, ap, ◌∙◌, codes, IsTrue}
 use Rattle.std.specs.Str.{bytes_eq}
 use Rattle.std.proofs.lemmas.Bool.{both_ways, not-false, ltb-false}
 use Rattle.std.specs.Cmp.{nat_cmp_total}
@@ -16,7 +16,6 @@ use Rattle.configfs_rows.specs.Holders.{hold, number_of, paths_of, holds_path, p
 use Rattle.configfs_tree.specs.Outcome.{Outcome, unless_stands, on_subsystem}
 use Rattle.configfs_tree.specs.Standing.{Placed, placed_in}
 use Rattle.configfs_rows.specs.declared.limits.TheConstants.{MAX_SUBSYSTEMS, MAX_PORTS}
-use Rattle.configfs_tree.specs.declared.edits.Errno.{Errno}
 use Rattle.configfs_rows.specs.declared.namespaces.NamespaceRow.{NamespaceRow}
 use Rattle.configfs_rows.specs.declared.subsystems.SubsystemRow.{SubsystemRow}
 use Rattle.sqe_cqe.specs.declared.rows.Ana.{Ana}
@@ -24,13 +23,9 @@ use Rattle.configfs_rows.specs.declared.ports.PortRow.{PortRow}
 use Rattle.configfs_tree.specs.declared.configuration.Configuration.{Configuration}
 use Rattle.configfs_rows.proofs.Gets.{some_same, none_some, get-insert_at, get-insert_beside, get-remove_beside, get-update_beside, get-remove_at, get-update_at}
 use Rattle.std.specs.Ordering.{nat_cmp}
-use Rattle.configfs_tree.proofs.Kept.{names_same, none_of_test, placed_made, placed_removed}
-use Rattle.configfs_tree.proofs.Holds.{Holds, refuses, accepted, holds_row, holds_end, holds_last, holds_either, holds_unless, holds_if_subsystem, holds_if_namespace, holds_if_port, holds_if_group, holds_parsed}
+use Rattle.configfs_tree.proofs.Kept.{names_same, no_namespaces, placed_made, placed_removed}
+use Rattle.configfs_tree.proofs.Holds.{Holds, refuses, holds_row, holds_end, holds_last, holds_either, holds_unless, holds_if_subsystem, holds_if_rows, holds_if_port, holds_if_group, holds_parsed}
 use Rattle.configfs_tree.proofs.Held.{here}
-use Rattle.std.specs.Prelude.{IfOk}
-use Rattle.configfs_tree.specs.declared.edits.Change.{Change}
-use Rattle.configfs_tree.specs.declared.edits.Refused.{Refused}
-use Rattle.configfs_tree.specs.Gives.{Gives, GivesErrno}
 use Rattle.uuid.specs.Text.{parsed}
 use Rattle.sqe_cqe.specs.Anas.{ana_named, ana_number}
 use Rattle.configfs_rows.specs.Values.{group_named}
@@ -63,7 +58,7 @@ use Rattle.configfs_rows.specs.Values.{has_path, same_bool, same_state}
 use Rattle.configfs_tree.specs.declared.edits.Touched.TheVariants as touches
 use Rattle.configfs_rows.specs.declared.namespaces.NamespacePut.{NamespacePut}
 use Rattle.configfs_tree.proofs.Kept.{placed_attr}
-use Rattle.configfs_tree.proofs.KeptTable.{left_false, none_below, right_false}
+use Rattle.configfs_tree.proofs.Tests.{left_false, none_of_test, right_false}
 use Rattle.configfs_tree.proofs.Slots.{slot_put, slot_made, slot_gone, put_ports, made_ports, gone_ports}
 use Rattle.configfs_tree.proofs.Tells.{insert_differs, insert_other, remove_differs, update_differs, tells_nothing, hosts_tell, rows_tell, slot_tells, turn_tells, move_tells, ports_tell, port_tells}
 
@@ -155,10 +150,7 @@ unfolding rmdir_subsystem
 u_rmdir_subsystem t sub = holds_if_subsystem _ _ (λ s e. holds_row _ _ _ _
     (λ _. holds_last _ _ _ _ (λ unfilled.
     let m = t.settings.subsystems in
-    let empty : s.namespaces ≡ map.empty =
-    map.empty_of_len s.namespaces (none_below (map.len s.namespaces)
-    (left_false (nat_lt 0 (map.len s.namespaces)) (nat_lt 0 (map.len s.allowed_hosts))
-    unfilled)) in
+    let empty = no_namespaces s unfilled in
     rows_tell t (map.remove m sub) sub s (inl e)
     (λ a ne. get-remove_beside nat_list_cmp_total names_same m sub a ne)
     (remove_differs nat_list_cmp_total names_same m sub s e)
@@ -167,15 +159,14 @@ u_rmdir_subsystem t sub = holds_if_subsystem _ _ (λ s e. holds_row _ _ _ _
 u_rmdir_namespace : (t : Configuration) (sub : List ℕ) (nsid : ℕ)
     → Told t (rmdir_namespace t sub nsid)
 unfolding rmdir_namespace
-u_rmdir_namespace t sub nsid = holds_if_subsystem _ _ (λ s e. holds_if_namespace _ _
-    (λ n f. holds_last _ _ _ _ (λ free.
+u_rmdir_namespace t sub nsid = holds_if_rows _ _ _ (λ s e n f. holds_last _ _ _ _ (λ free.
     let m = t.settings.subsystems in
     slot_tells t (update_at m sub (remove_namespace nsid)) sub nsid (Some (here s.at n)) None
     (here s.at n) (inl refl)
     (slot_gone m sub nsid s n e f)
     (λ g. none_some (here s.at n) g)
     (sym (left_false n.enabled (holds_path t.disks s.at nsid n.device_path) free))
-    (λ x y g h. absurd (none_some y h)))))
+    (λ x y g h. absurd (none_some y h))))
 
 -- group 1 is the one of a port that has no other
 only_one : (m : FinMap nat_cmp Ana) (j : ℕ) → IsTrue (map.contains_key m 1)
@@ -274,12 +265,12 @@ other_path (Some path) value e is = other_bytes path value e (some_same path val
 u_set_device_path : (t : Configuration) (sub : List ℕ) (nsid : ℕ) (value : List ℕ)
     → Told t (set_device_path t sub nsid value)
 unfolding set_device_path
-u_set_device_path t sub nsid value = holds_if_subsystem _ _ (λ s e. holds_if_namespace _ _
-    (λ n f. holds_row _ _ _ _ (λ _. holds_end _ _ _ (λ _. holds_unless _ t _ _ (tells_nothing t)
+u_set_device_path t sub nsid value = holds_if_rows _ _ _ (λ s e n f.
+    holds_row _ _ _ _ (λ _. holds_end _ _ _ (λ _. holds_unless _ t _ _ (tells_nothing t)
     (λ other.
     put_tells t sub nsid (Path value (number_of value (paths_of t.disks))) s n e f
     (λ is. other_path n.device_path value other (ap (λ (r : NamespaceRow). r.device_path) is))
-    refl refl)))))
+    refl refl))))
 
 put_identifier : (which : Identifier) (bytes : List ℕ) (n : NamespaceRow)
     → identifier_of which (put_in (NewIdentifier which bytes) n) ≡ bytes
@@ -290,14 +281,14 @@ u_set_identifier : (t : Configuration) (sub : List ℕ) (nsid : ℕ) (which : Id
     (value : List ℕ) → Told t (set_identifier t sub nsid which value)
 unfolding set_identifier
 u_set_identifier t sub nsid which value =
-    holds_if_subsystem _ _ (λ s e. holds_if_namespace _ _ (λ n f. holds_end _ _ _
+    holds_if_rows _ _ _ (λ s e n f. holds_end _ _ _
     (λ _. holds_parsed (parsed value) (λ (bytes : List ℕ). unless_stands
     (bytes_eq (identifier_of which n) bytes) t (put_on t sub s.at nsid (NewIdentifier which bytes)))
     (λ bytes. holds_unless _ t _ _ (tells_nothing t) (λ other.
     put_tells t sub nsid (NewIdentifier which bytes) s n e f
     (λ is. other_bytes (identifier_of which n) bytes other
     (sym (ap (λ (r : NamespaceRow). identifier_of which r) is)
-    ∙ put_identifier which bytes n)) refl refl)))))
+    ∙ put_identifier which bytes n)) refl refl))))
 
 u_put_group_of : (t : Configuration) (sub : List ℕ) (nsid : ℕ) (s : SubsystemRow) (n : NamespaceRow)
     (group : Option ℕ) → map.get t.settings.subsystems sub ≡ Some s
@@ -312,8 +303,8 @@ u_put_group_of t sub nsid s n (Some group) e f = holds_unless _ t _ _ (tells_not
 u_set_ana_grpid : (t : Configuration) (sub : List ℕ) (nsid : ℕ) (value : List ℕ)
     → Told t (set_ana_grpid t sub nsid value)
 unfolding set_ana_grpid
-u_set_ana_grpid t sub nsid value = holds_if_subsystem _ _ (λ s e. holds_if_namespace _ _
-    (λ n f. u_put_group_of t sub nsid s n (group_named value) e f))
+u_set_ana_grpid t sub nsid value = holds_if_rows _ _ _ (λ s e n f.
+    u_put_group_of t sub nsid s n (group_named value) e f)
 
 u_disabled : (t : Configuration) (sub : List ℕ) (nsid : ℕ) (s : SubsystemRow) (n : NamespaceRow)
     → map.get t.settings.subsystems sub ≡ Some s → map.get s.namespaces nsid ≡ Some n
@@ -339,11 +330,10 @@ u_enabled t sub nsid s n e f = holds_unless _ t _ _ (tells_nothing t) (λ off.
 pub u_set_enable : (t : Configuration) (sub : List ℕ) (nsid : ℕ) (value : List ℕ)
     → Told t (set_enable t sub nsid value)
 unfolding set_enable
-u_set_enable t sub nsid value = holds_if_subsystem _ _ (λ s e. holds_if_namespace _ _
-    (λ n f. holds_either _ _ _
+u_set_enable t sub nsid value = holds_if_rows _ _ _ (λ s e n f. holds_either _ _ _
     (u_disabled t sub nsid s n e f)
     (holds_row _ _ _ _ (λ _. holds_row _ _ _ _ (λ _. holds_row _ _ _ _
-    (λ _. holds_end _ _ _ (λ _. u_enabled t sub nsid s n e f)))))))
+    (λ _. holds_end _ _ _ (λ _. u_enabled t sub nsid s n e f))))))
 
 u_set_of_namespace : (t : Configuration) (sub : List ℕ) (nsid : ℕ) (a : Attr) (value : List ℕ)
     → Told t (set_of_namespace t sub nsid a value)

@@ -3,6 +3,7 @@ pub mod Drained
 pub mod Errnos
 pub mod Gives
 pub mod Links
+pub mod NamespaceRows
 pub mod Outcome
 pub mod Phases
 pub mod Sound

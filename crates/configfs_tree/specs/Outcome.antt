@@ -6,6 +6,7 @@ use Rattle.configfs_rows.specs.declared.namespaces.NamespaceRow.{NamespaceRow}
 use Rattle.configfs_rows.specs.declared.subsystems.SubsystemRow.{SubsystemRow}
 use Rattle.sqe_cqe.specs.declared.rows.Ana.{Ana}
 use Rattle.configfs_rows.specs.declared.ports.PortRow.{PortRow}
+use Rattle.configfs_tree.specs.NamespaceRows.{rows_of}
 use Rattle.configfs_tree.specs.declared.edits.Errno.{Errno}
 use Rattle.configfs_tree.specs.declared.edits.Errno.TheVariants.{ENOENT}
 use Rattle.configfs_tree.specs.declared.edits.Change.{Change}
@@ -86,9 +87,10 @@ unfoldable pub if_subsystem : Option SubsystemRow → (SubsystemRow → Outcome)
 if_subsystem None outcome = Refuses ENOENT
 if_subsystem (Some s) outcome = outcome s
 
-unfoldable pub if_namespace : Option NamespaceRow → (NamespaceRow → Outcome) → Outcome
-if_namespace None outcome = Refuses ENOENT
-if_namespace (Some n) outcome = outcome n
+unfoldable pub if_rows : Option (SubsystemRow × NamespaceRow) → (SubsystemRow → NamespaceRow
+    → Outcome) → Outcome
+if_rows None outcome = Refuses ENOENT
+if_rows (Some rows) outcome = outcome rows.0 rows.1
 
 unfoldable pub if_port : Option PortRow → (PortRow → Outcome) → Outcome
 if_port None outcome = Refuses ENOENT
@@ -103,8 +105,7 @@ in_subsystem t sub outcome = if_subsystem (map.get t.settings.subsystems sub) ou
 
 abbrev pub in_namespace : Configuration → List ℕ → ℕ → (SubsystemRow → NamespaceRow → Outcome)
     → Outcome
-in_namespace t sub nsid outcome = in_subsystem t sub (λ s. if_namespace (map.get s.namespaces nsid)
-    (outcome s))
+in_namespace t sub nsid outcome = if_rows (rows_of t.settings sub nsid) outcome
 
 abbrev pub in_port : Configuration → ℕ → (PortRow → Outcome) → Outcome
 in_port t id outcome = if_port (map.get t.settings.ports id) outcome

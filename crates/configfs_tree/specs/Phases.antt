@@ -3,12 +3,12 @@
 -- the namespace holds the disk of its path, and no other namespace does, so the disk tells the
 -- life.
 use Rattle.std.specs.Prelude.{ℕ, Bool, true, false, List, Option, Some, None}
-use Rattle.std.specs.FinMap as map
 use Rattle.configfs_rows.specs.Holders.{holds_path}
 use Rattle.configfs_rows.specs.declared.namespaces.Phase.{Phase}
 use Rattle.configfs_rows.specs.declared.namespaces.Phase.TheVariants as phase
 use Rattle.configfs_rows.specs.declared.namespaces.NamespaceRow.{NamespaceRow}
 use Rattle.configfs_rows.specs.declared.subsystems.SubsystemRow.{SubsystemRow}
+use Rattle.configfs_tree.specs.NamespaceRows.{rows_of}
 use Rattle.configfs_tree.specs.declared.configuration.Configuration.{Configuration}
 
 -- by whether it is enabled and whether it holds the disk of its path
@@ -20,14 +20,10 @@ phase_from false false = phase.Off
 abbrev pub phase_of : Configuration → SubsystemRow → ℕ → NamespaceRow → Phase
 phase_of t s nsid n = phase_from n.enabled (holds_path t.disks s.at nsid n.device_path)
 
-abbrev pub phase_of_some : Configuration → SubsystemRow → ℕ → Option NamespaceRow → Option Phase
-phase_of_some t s nsid None = None
-phase_of_some t s nsid (Some n) = Some (phase_of t s nsid n)
-
-abbrev pub phase_in : Configuration → ℕ → Option SubsystemRow → Option Phase
-phase_in t nsid None = None
-phase_in t nsid (Some s) = phase_of_some t s nsid (map.get s.namespaces nsid)
+abbrev pub phase_of_rows : Configuration → ℕ → Option (SubsystemRow × NamespaceRow) → Option Phase
+phase_of_rows t nsid None = None
+phase_of_rows t nsid (Some rows) = Some (phase_of t rows.0 nsid rows.1)
 
 -- the phase of a namespace by its names, where it is there
 abbrev pub phase_at : Configuration → List ℕ → ℕ → Option Phase
-phase_at t sub nsid = phase_in t nsid (map.get t.settings.subsystems sub)
+phase_at t sub nsid = phase_of_rows t nsid (rows_of t.settings sub nsid)

@@ -53,7 +53,7 @@ fn certify_names(e: &FolderEdit)
 }
 
 // An answer that takes no memory as one that may.
-fn refusing(answer: Result<Change, Errno>) -> Result<Change, Refused>
+fn into_refused(answer: Result<Change, Errno>) -> Result<Change, Refused>
     ensures { result ≡ with_errno answer }
 {
     match answer {
@@ -98,7 +98,7 @@ impl Configuration {
             self.old result self.new }
     {
         match attr {
-            Attr::AllowAnyHost => refusing(self.set_attr_allow_any_host(sub, value)),
+            Attr::AllowAnyHost => into_refused(self.set_attr_allow_any_host(sub, value)),
             Attr::Serial => self.set_attr_serial(alloc, sub, value),
             Attr::ModelName => self.set_attr_model(alloc, sub, value),
             _ => Err(Refused::Errno(Errno::EINVAL)),
@@ -119,13 +119,13 @@ impl Configuration {
         match attr {
             Attr::DevicePath => self.set_device_path(alloc, sub, nsid, value),
             Attr::DeviceUuid => {
-                refusing(self.set_identifier(sub, nsid, Identifier::Uuid, value))
+                into_refused(self.set_identifier(sub, nsid, Identifier::Uuid, value))
             }
             Attr::DeviceNguid => {
-                refusing(self.set_identifier(sub, nsid, Identifier::Nguid, value))
+                into_refused(self.set_identifier(sub, nsid, Identifier::Nguid, value))
             }
-            Attr::AnaGrpid => refusing(self.set_ana_grpid(sub, nsid, value)),
-            Attr::Enable => refusing(self.set_enable(sub, nsid, value)),
+            Attr::AnaGrpid => into_refused(self.set_ana_grpid(sub, nsid, value)),
+            Attr::Enable => into_refused(self.set_enable(sub, nsid, value)),
             _ => Err(Refused::Errno(Errno::EINVAL)),
         }
     }
@@ -161,7 +161,7 @@ impl Configuration {
             result self.new }
     {
         match attr {
-            Attr::AnaState => refusing(self.set_ana_state(id, group, value)),
+            Attr::AnaState => into_refused(self.set_ana_state(id, group, value)),
             _ => Err(Refused::Errno(Errno::EINVAL)),
         }
     }
@@ -171,7 +171,7 @@ impl Configuration {
     {
         match e {
             FolderEdit::Mkdir(folder) => self.mkdir(alloc, folder),
-            FolderEdit::Rmdir(folder) => refusing(self.rmdir(folder)),
+            FolderEdit::Rmdir(folder) => into_refused(self.rmdir(folder)),
             FolderEdit::Set(Folder::Host(_), _, _) => Err(Refused::Errno(Errno::EINVAL)),
             FolderEdit::Set(Folder::Subsystem(sub), attr, value) => {
                 self.set_of_subsystem(alloc, sub, *attr, value.as_bytes())

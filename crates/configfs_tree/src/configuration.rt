@@ -1,14 +1,15 @@
-ghost use Rattle.std.specs.Prelude.{◌≡◌, ◌≤◌, ◌||◌, ◌+◌, ◌-◌, ◌^◌, ◌<◌, length, min, nat_lt, slice_index, IfOk, map};
+ghost use Rattle.std.specs.Prelude.{◌≡◌, ◌≤◌, ◌||◌, ◌+◌, ◌-◌, ◌^◌, ◌<◌, length, min, nat_lt, slice_index, IfOk, map, MatchOption, None, Some};
 ghost use Rattle.std.specs.List.{list_any};
 ghost use Rattle.std.specs.Str.{bytes_eq};
 ghost use Rattle.configfs_rows.specs.Holders.{are_apart, holds_path};
 ghost use Rattle.configfs_rows.specs.declared.limits.TheConstants.{MAX_DISKS, MAX_CONTROLLERS};
 ghost use Rattle.configfs_tree.specs.Links.{one_more};
+ghost use Rattle.configfs_tree.specs.NamespaceRows.{rows_of};
 ghost use Rattle.configfs_tree.specs.Start.{are_disks, empty_tree, free_disk, line_path};
 
 use configfs_rows::{
     DiskRow, Disks, MAX_CONTROLLERS, MAX_DISKS, MAX_PORTS, MAX_SUBSYSTEMS, Names, NamespaceRow,
-    Ports, Subsystems,
+    Nqn, Ports, SubsystemRow, Subsystems,
 };
 use mem_bdev::{DiskLine, Name};
 use std::alloc::{AllocError, Global};
@@ -50,12 +51,12 @@ fn has_line(lines: &[DiskLine], path: &[u8]) -> bool
 }
 
 // Whether the paths of disks differ.
-fn differ(lines: &[DiskLine]) -> bool
+fn paths_differ(lines: &[DiskLine]) -> bool
     ensures { result ≡ are_apart (map line_path lines.now) }
 {
     match lines {
         [] => true,
-        [line, rest @ ..] => !has_line(rest, line.path.as_bytes()) && differ(rest),
+        [line, rest @ ..] => !has_line(rest, line.path.as_bytes()) && paths_differ(rest),
     }
 }
 
@@ -63,11 +64,11 @@ fn differ(lines: &[DiskLine]) -> bool
 pub fn may_be_disks(lines: &[DiskLine]) -> bool
     ensures { result ≡ are_disks lines.now }
 {
-    lines.len() <= MAX_DISKS && differ(lines)
+    lines.len() <= MAX_DISKS && paths_differ(lines)
 }
 
 // The disks of a plan, each of them free.
-fn free_disks(alloc: Global, lines: &[DiskLine]) -> Result<Disks, AllocError>
+fn make_disks(alloc: Global, lines: &[DiskLine]) -> Result<Disks, AllocError>
     requires { length lines.now ≤ MAX_DISKS }
     ensures { IfOk result (λ d. d ≡ map free_disk lines.now) }
 {
@@ -80,7 +81,7 @@ fn free_disks(alloc: Global, lines: &[DiskLine]) -> Result<Disks, AllocError>
 }
 
 // A count after one more, which stands still at its last number.
-pub(crate) fn raised(count: u64) -> u64
+pub(crate) fn count_up(count: u64) -> u64
     ensures { result ≡ min (count + 1) (2 ^ 64 - 1) }
 {
     count.saturating_add(1)
@@ -106,13 +107,29 @@ pub(crate) fn raise_at(counts: &mut [u8], at: u8)
     }
 }
 
+impl Settings {
+    // The row of a namespace with the row of its subsystem.
+    pub(crate) fn find_namespace(
+        &self,
+        sub: &Nqn,
+        nsid: u32,
+    ) -> Option<(&SubsystemRow, &NamespaceRow)>
+        ensures { MatchOption result (rows_of self.now sub.now nsid ≡ None)
+            (λ rows. rows_of self.now sub.now nsid ≡ Some (rows.0.now, rows.1.now)) }
+    {
+        let row = self.subsystems.get(sub)?;
+        let namespace = row.namespaces.get(nsid)?;
+        Some((row, namespace))
+    }
+}
+
 impl Configuration {
     // The empty configuration over the disks of a plan.
     pub(crate) fn empty(alloc: Global, disks: &[DiskLine]) -> Result<Self, AllocError>
         requires { length disks.now ≤ MAX_DISKS }
         ensures { IfOk result (λ t. t ≡ empty_tree disks.now) }
     {
-        let disks = free_disks(alloc, disks)?;
+        let disks = make_disks(alloc, disks)?;
         let settings = Settings {
             hosts: Names::new(alloc),
             subsystems: Subsystems::new(alloc),
@@ -141,7 +158,7 @@ impl Configuration {
     }
 
     // Whether a namespace is enabled or draining.
-    pub(crate) fn busy(&self, at: u8, nsid: u32, row: &NamespaceRow) -> bool
+    pub(crate) fn is_busy(&self, at: u8, nsid: u32, row: &NamespaceRow) -> bool
         ensures { result ≡ (row.now.enabled || holds_path self.now.disks at nsid
             row.now.device_path) }
     {

@@ -7,12 +7,12 @@ ghost use Rattle.configfs_tree.specs.Table.{mkdir_namespace, rmdir_namespace, se
 ghost use Rattle.configfs_tree.specs.Told.{Tells};
 ghost use Rattle.configfs_rows.specs.Values.{is_text};
 
-use crate::configuration::{Configuration, raised};
+use crate::configuration::{Configuration, count_up};
 use crate::edits::{Change, Errno, Refused, Touched};
 use crate::tree::Tree;
 use configfs_rows::{
-    Holder, Identifier, MAX_NSID, NamespacePut, Nqn, Phase, group_number, may_be_path, parse_uuid,
-    stands,
+    Holder, Identifier, MAX_NSID, NamespacePut, Nqn, Phase, group_number, has_path, may_be_path,
+    parse_uuid,
 };
 use mem_bdev::Name;
 use std::alloc::Global;
@@ -38,25 +38,22 @@ impl Configuration {
         Ok(Change::of(Touched::Namespace(at, nsid)))
     }
 
-    #[tactic(auto, unfolding(crate::specs::Table::rmdir_namespace, crate::specs::Outcome::first_of, crate::specs::Outcome::if_subsystem, crate::specs::Outcome::if_namespace))]
+    #[tactic(auto, unfolding(crate::specs::Table::rmdir_namespace, crate::specs::Outcome::first_of, crate::specs::Outcome::if_rows))]
     pub(crate) fn rmdir_namespace(&mut self, sub: &Nqn, nsid: u32) -> Result<Change, Errno>
         ensures { GivesErrno (rmdir_namespace self.old sub.now nsid) self.old result self.new }
     {
-        let Some(row) = self.settings.subsystems.get(sub) else {
+        let Some((row, namespace)) = self.settings.find_namespace(sub, nsid) else {
             return Err(Errno::ENOENT);
         };
         let at = row.at;
-        let Some(namespace) = row.namespaces.get(nsid) else {
-            return Err(Errno::ENOENT);
-        };
-        if self.busy(at, nsid, namespace) {
+        if self.is_busy(at, nsid, namespace) {
             return Err(Errno::EBUSY);
         }
         self.settings.subsystems.remove_namespace(sub, nsid);
         Ok(Change::of(Touched::Namespace(at, nsid)))
     }
 
-    #[tactic(auto, unfolding(crate::specs::Table::set_device_path, crate::specs::Outcome::first_of, crate::specs::Outcome::unless_stands, crate::specs::Outcome::if_subsystem, crate::specs::Outcome::if_namespace))]
+    #[tactic(auto, unfolding(crate::specs::Table::set_device_path, crate::specs::Outcome::first_of, crate::specs::Outcome::unless_stands, crate::specs::Outcome::if_rows))]
     pub(crate) fn set_device_path(
         &mut self,
         alloc: Global,
@@ -67,20 +64,17 @@ impl Configuration {
         ensures { Gives true (set_device_path self.old sub.now nsid value.now) self.old result
             self.new }
     {
-        let Some(row) = self.settings.subsystems.get(sub) else {
+        let Some((row, namespace)) = self.settings.find_namespace(sub, nsid) else {
             return Err(Refused::Errno(Errno::ENOENT));
         };
         let at = row.at;
-        let Some(namespace) = row.namespaces.get(nsid) else {
-            return Err(Refused::Errno(Errno::ENOENT));
-        };
-        if self.busy(at, nsid, namespace) {
+        if self.is_busy(at, nsid, namespace) {
             return Err(Refused::Errno(Errno::EBUSY));
         }
         if !may_be_path(value) {
             return Err(Refused::Errno(Errno::EINVAL));
         }
-        if stands(&namespace.device_path, value) {
+        if has_path(&namespace.device_path, value) {
             return Ok(Change::none());
         }
         let disk = self.disks.number(value);
@@ -93,7 +87,7 @@ impl Configuration {
         Ok(Change::of(Touched::Namespace(at, nsid)))
     }
 
-    #[tactic(auto, unfolding(crate::specs::Table::set_identifier, crate::specs::Outcome::first_of, crate::specs::Outcome::unless_stands, crate::specs::Outcome::if_subsystem, crate::specs::Outcome::if_namespace))]
+    #[tactic(auto, unfolding(crate::specs::Table::set_identifier, crate::specs::Outcome::first_of, crate::specs::Outcome::unless_stands, crate::specs::Outcome::if_rows))]
     pub(crate) fn set_identifier(
         &mut self,
         sub: &Nqn,
@@ -104,14 +98,11 @@ impl Configuration {
         ensures { GivesErrno (set_identifier self.old sub.now nsid which value.now) self.old result
             self.new }
     {
-        let Some(row) = self.settings.subsystems.get(sub) else {
+        let Some((row, namespace)) = self.settings.find_namespace(sub, nsid) else {
             return Err(Errno::ENOENT);
         };
         let at = row.at;
-        let Some(namespace) = row.namespaces.get(nsid) else {
-            return Err(Errno::ENOENT);
-        };
-        if self.busy(at, nsid, namespace) {
+        if self.is_busy(at, nsid, namespace) {
             return Err(Errno::EBUSY);
         }
         let Some(bytes) = parse_uuid(value) else {
@@ -126,7 +117,7 @@ impl Configuration {
         Ok(Change::of(Touched::Namespace(at, nsid)))
     }
 
-    #[tactic(auto, unfolding(crate::specs::Table::set_ana_grpid, crate::specs::Outcome::first_of, crate::specs::Outcome::unless_stands, crate::specs::Outcome::if_subsystem, crate::specs::Outcome::if_namespace))]
+    #[tactic(auto, unfolding(crate::specs::Table::set_ana_grpid, crate::specs::Outcome::first_of, crate::specs::Outcome::unless_stands, crate::specs::Outcome::if_rows))]
     pub(crate) fn set_ana_grpid(
         &mut self,
         sub: &Nqn,
@@ -136,13 +127,10 @@ impl Configuration {
         ensures { GivesErrno (set_ana_grpid self.old sub.now nsid value.now) self.old result
             self.new }
     {
-        let Some(row) = self.settings.subsystems.get(sub) else {
+        let Some((row, namespace)) = self.settings.find_namespace(sub, nsid) else {
             return Err(Errno::ENOENT);
         };
         let at = row.at;
-        let Some(namespace) = row.namespaces.get(nsid) else {
-            return Err(Errno::ENOENT);
-        };
         let Some(group) = group_number(value) else {
             return Err(Errno::EINVAL);
         };
@@ -152,21 +140,18 @@ impl Configuration {
         self.settings
             .subsystems
             .put_namespace(sub, nsid, NamespacePut::Group(group));
-        self.settings.ana_count = raised(self.settings.ana_count);
+        self.settings.ana_count = count_up(self.settings.ana_count);
         Ok(Change::of_group(at, nsid))
     }
 
-    #[tactic(auto, unfolding(crate::specs::Table::set_enable, crate::specs::Outcome::first_of, crate::specs::Outcome::unless_stands, crate::specs::Outcome::either, crate::specs::Outcome::if_subsystem, crate::specs::Outcome::if_namespace))]
+    #[tactic(auto, unfolding(crate::specs::Table::set_enable, crate::specs::Outcome::first_of, crate::specs::Outcome::unless_stands, crate::specs::Outcome::either, crate::specs::Outcome::if_rows))]
     pub(crate) fn set_enable(&mut self, sub: &Nqn, nsid: u32, value: &[u8]) -> Result<Change, Errno>
         ensures { GivesErrno (set_enable self.old sub.now nsid value.now) self.old result self.new }
     {
-        let Some(row) = self.settings.subsystems.get(sub) else {
+        let Some((row, namespace)) = self.settings.find_namespace(sub, nsid) else {
             return Err(Errno::ENOENT);
         };
         let at = row.at;
-        let Some(namespace) = row.namespaces.get(nsid) else {
-            return Err(Errno::ENOENT);
-        };
         let was = namespace.enabled;
         if value == b"0".as_slice() {
             if !was {
@@ -206,10 +191,7 @@ impl Configuration {
     fn free_disk(&mut self, sub: &Nqn, nsid: u32)
         ensures { self.new ≡ drained self.old sub.now nsid }
     {
-        let Some(row) = self.settings.subsystems.get(sub) else {
-            return;
-        };
-        let Some(namespace) = row.namespaces.get(nsid) else {
+        let Some((_, namespace)) = self.settings.find_namespace(sub, nsid) else {
             return;
         };
         if let Some(path) = &namespace.device_path {

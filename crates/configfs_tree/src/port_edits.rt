@@ -3,7 +3,7 @@ ghost use Rattle.std.specs.Prelude.{true};
 ghost use Rattle.configfs_tree.specs.Gives.{Gives, GivesErrno};
 ghost use Rattle.configfs_tree.specs.Table.{mkdir_port, rmdir_port, mkdir_ana_group, rmdir_ana_group, set_address, set_addr_trtype, set_addr_adrfam, set_addr_treq, set_addr_traddr, set_addr_trsvcid, set_ana_state};
 
-use crate::configuration::{Configuration, raised};
+use crate::configuration::{Configuration, count_up};
 use crate::edits::{Change, Errno, Refused, Touched};
 use configfs_rows::{
     Address, MAX_ANA_GROUPS, MAX_PORTS, PortRow, TRADDR_LEN, TRSVCID_LEN, is_adrfam, is_treq,
@@ -56,7 +56,7 @@ impl Configuration {
         {
             return Err(Refused::Memory);
         }
-        self.settings.ana_count = raised(self.settings.ana_count);
+        self.settings.ana_count = count_up(self.settings.ana_count);
         Ok(Change::of_port(at, group))
     }
 
@@ -94,7 +94,7 @@ impl Configuration {
             return Err(Errno::EPERM);
         }
         self.settings.ports.remove_group(id, group);
-        self.settings.ana_count = raised(self.settings.ana_count);
+        self.settings.ana_count = count_up(self.settings.ana_count);
         Ok(Change::of_port(at, group))
     }
 
@@ -219,7 +219,7 @@ impl Configuration {
         let Ok(()) = self.settings.ports.put_group(id, group, new) else {
             unreachable!()
         };
-        self.settings.ana_count = raised(self.settings.ana_count);
+        self.settings.ana_count = count_up(self.settings.ana_count);
         Ok(Change::of_port(at, group))
     }
 }

@@ -45,7 +45,7 @@ fn edit(rt: &impl Abort, alloc: Global, what: Do) -> FolderEdit {
 }
 
 // The answer of an edit, as the journal writes it.
-fn told(rt: &impl Abort, alloc: Global, tree: &mut Tree, what: Do) -> &'static str {
+fn apply(rt: &impl Abort, alloc: Global, tree: &mut Tree, what: Do) -> &'static str {
     let e = edit(rt, alloc, what);
     assert!(rt; e.is_fitting(), "an edit that may be read");
     match tree.apply_folder(alloc, &e) {
@@ -57,7 +57,7 @@ fn told(rt: &impl Abort, alloc: Global, tree: &mut Tree, what: Do) -> &'static s
 
 fn run(rt: &impl Abort, alloc: Global, tree: &mut Tree, rows: &[Row]) {
     for (i, row) in rows.iter().enumerate() {
-        let answer = told(rt, alloc, tree, row.0);
+        let answer = apply(rt, alloc, tree, row.0);
         assert!(rt; answer == row.1, "row {i}: {answer}");
     }
 }

@@ -93,8 +93,7 @@ impl Tree {
     pub fn phase(&self, sub: &Nqn, nsid: u32) -> Option<Phase>
         ensures { result ≡ phase_at self.now sub.now nsid }
     {
-        let row = self.configuration.settings.subsystems.get(sub)?;
-        let namespace = row.namespaces.get(nsid)?;
+        let (row, namespace) = self.configuration.settings.find_namespace(sub, nsid)?;
         if namespace.enabled {
             return Some(Phase::Enabled);
         }

@@ -1,5 +1,5 @@
 -- What is admitted is a job on the namespace that is seen.
-use Rattle.std.proofs.Common.{◌≡◌, ◌≢◌, ◌≤◌, ◌<◌, ◌+◌, ◌*◌, ◌^◌, ◌%◌, ℕ, nat_lt, nat_eq, ◌==◌, ◌&&◌, ◌||◌, Bool, true, false, not, cond, IsTrue, refl, sym, ap, subst, ◌∙◌, arith}
+use Rattle.std.proofs.Common.{◌≡◌, ◌≢◌, ◌≤◌, ◌+◌, ◌*◌, ◌^◌, ℕ, nat_lt, ◌==◌, ◌&&◌, ◌||◌, Bool, true, false, not, cond, IsTrue, refl, sym, subst, ◌∙◌, arith}
 use Rattle.std.proofs.Math.Bool.{or-true}
 use Rattle.mem_bdev.specs.declared.limits.TheConstants.{MAX_TRANSFER}
 use Rattle.sqe_cqe.specs.declared.sqe.Sqe.{Sqe}
@@ -17,7 +17,6 @@ use Rattle.io_commands.specs.declared.jobs.Job.{Job}
 use Rattle.io_commands.specs.declared.jobs.Job.TheVariants as jobs
 use Rattle.io_commands.specs.declared.jobs.Admit.{Admit}
 use Rattle.io_commands.specs.declared.jobs.Admit.TheVariants.{Refused, Run}
-use Rattle.io_commands.specs.Jobs.{FitsDisk}
 use Rattle.io_commands.specs.Admission.{is_io, job_of, by_range, by_bars, by_state, by_namespace, io_admission, bytes_named, moves_data, first_block, block_count, IsJobOf, IsOnSeen, FitsSeen}
 
 -- an entry whose SGL names no bytes has no data either way

@@ -31,7 +31,8 @@ short_word Accepted = lit≤ tt
 short_word (Refused errno) = short_name errno
 
 short_number : (n : ℕ) → n < 2 ^ 32 → length (decimal n) ≤ 10
-short_number n small = length-decimal-le 10 n (omega arith) (omega (arith, small)) (omega (arith, small))
+short_number n small = length-decimal-le 10 n (omega arith) (omega (arith, small)) (omega
+    (arith, small))
 
 numbers_len : (place line : ℕ) → place < 2 ^ 32 → line < 2 ^ 32
     → length ((32 ∷ decimal place) ++ (32 ∷ decimal line)) ≤ 22

@@ -19,7 +19,8 @@ subsystem_found t sub s e standing positions =
     record {
       found = e;
       stands = stands;
-      in_use = found_any (λ (x : SubsystemRow). x.at == s.at) (map.values t.settings.subsystems) s stands;
+      in_use = found_any (λ (x : SubsystemRow). x.at == s.at)
+          (map.values t.settings.subsystems) s stands;
       named = standing.placed.subsystems.own_key sub s e;
     }
 
@@ -38,7 +39,8 @@ pub subsystem_of : (t : Configuration) (sub : List ℕ) (r : Option (Bor Subsyst
     → option_copied r ≡ map.get t.settings.subsystems sub → IsStanding t → SubsystemPositions t
     → MatchOption r (map.get t.settings.subsystems sub ≡ None) (λ s. SubsystemFound t sub s.now)
 subsystem_of t sub None e standing positions = sym e
-subsystem_of t sub (Some s) e standing positions = subsystem_found t sub s.now (sym e) standing positions
+subsystem_of t sub (Some s) e standing positions = subsystem_found t sub s.now
+    (sym e) standing positions
 
 pub port_of : (t : Configuration) (id : ℕ) (r : Option (Bor PortRow))
     → option_copied r ≡ map.get t.settings.ports id → IsStanding t → PortPositions t

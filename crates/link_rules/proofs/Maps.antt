@@ -1,4 +1,5 @@
--- A map after what stands at a key was changed, and a set of names after one was put in or taken away.
+-- A map after what stands at a key was changed, and a set of names after one was put in or taken
+-- away.
 use Rattle.std.proofs.Common.{◌≡◌, ◌⊎◌, inl, inr, Bool, true, false, cond, not, List, [], ◌∷◌, Option, Some, None, refl, sym, ap, subst, ◌∙◌, IsTrue}
 use mathlib.Core.Logic.{⊎_elim}
 use Rattle.std.proofs.lemmas.Bool.{cases_Bool, both_ways}
@@ -23,7 +24,8 @@ pub found_any : {X : Type 0} (p : X → Bool) (xs : List X) (x : X) → find p x
 found_any p [] x e = absurd (none_some x e)
 found_any p (y ∷ xs) x e = elim (cases_Bool (p y)) [
   | inl here ↦ rw here refl
-  | inr beside ↦ let rest : find p xs ≡ Some x = rw beside at e in rw (beside, found_any p xs x rest) refl
+  | inr beside ↦ let rest : find p xs ≡ Some x = rw beside at e in rw
+      (beside, found_any p xs x rest) refl
 ]
 
 module _ {K : Type 0} {R : K → K → Ordering} (o : IsTotalOrder R) (same : IsAntisymmetric R) where

@@ -24,11 +24,11 @@ use Rattle.link_rules.specs.Reading.{nqn_of, number_below, all_attrs, attr_among
 use Rattle.link_rules.specs.Spelling.{path_of, folder_parts, link_parts, attr_word, link_verb, edit_words, fits_folder, fits_link, fits}
 use Rattle.link_rules.specs.Table as table
 use Rattle.link_rules.proofs.Maps.{none_some}
-use Rattle.link_rules.proofs.Numbers.{and-parts, digits_of, below_spelled, below_again}
-use Rattle.link_rules.proofs.Parts.{Slashless, parts_joined, digits_slashless, nqn_slashless}
+use Rattle.link_rules.proofs.Numbers.{and-parts, below_spelled}
 
 -- ---- tests and steps
-chosen : {A : Type 0} (b : Bool) (x y z : A) → cond b x y ≡ z → ((b ≡ true) × (x ≡ z)) ⊎ ((b ≡ false) × (y ≡ z))
+chosen : {A : Type 0} (b : Bool) (x y z : A) → cond b x y ≡ z
+    → ((b ≡ true) × (x ≡ z)) ⊎ ((b ≡ false) × (y ≡ z))
 chosen true x y z e = inl (refl, e)
 chosen false x y z e = inr (refl, e)
 
@@ -54,7 +54,8 @@ attr_was : (word : List ℕ) (attrs : List Attr) (a : Attr) → attr_among word 
 attr_was word [] a e = absurd (none_some a e)
 attr_was word (b ∷ attrs) a e =
     elim (chosen (bytes_eq word (attr_word b)) (Some b) (attr_among word attrs) (Some a) e) [
-      | inl here ↦ let is : b ≡ a = cc in rw (same_bytes word (attr_word b) here.0) (ap attr_word is)
+      | inl here ↦ let is : b ≡ a = cc in rw (same_bytes word (attr_word b) here.0)
+          (ap attr_word is)
       | inr beside ↦ attr_was word attrs a beside.1
     ]
 
@@ -84,17 +85,20 @@ record IsLink (parts : List (List ℕ)) (l : LinkEdit) : Type 0 where
   spelled : parts ≡ link_parts l
   fits : fits_link l ≡ true
 
-two_words : (kind name : List ℕ) (k n : List ℕ) → kind ≡ k → name ≡ n → kind ∷ name ∷ [] ≡ k ∷ n ∷ []
+two_words : (kind name : List ℕ) (k n : List ℕ) → kind ≡ k → name ≡ n
+    → kind ∷ name ∷ [] ≡ k ∷ n ∷ []
 two_words kind name k n e f = rw (e, f) refl
 
-four_words : (kind name inner last : List ℕ) (k n i l : List ℕ) → kind ≡ k → name ≡ n → inner ≡ i → last ≡ l
+four_words : (kind name inner last : List ℕ) (k n i l : List ℕ) → kind ≡ k → name ≡ n → inner ≡ i
+    → last ≡ l
     → kind ∷ name ∷ inner ∷ last ∷ [] ≡ k ∷ n ∷ i ∷ l ∷ []
 four_words kind name inner last k n i l e f g h = rw (e, f, g, h) refl
 
 both_true : (a b : Bool) → a ≡ true → b ≡ true → (a && b) ≡ true
 both_true a b e f = rw (e, f) refl
 
-outer_was : (kind name : List ℕ) (f : Folder) → outer_folder kind name ≡ Some f → IsFolder (kind ∷ name ∷ []) f
+outer_was : (kind name : List ℕ) (f : Folder) → outer_folder kind name ≡ Some f
+    → IsFolder (kind ∷ name ∷ []) f
 unfolding outer_folder
 outer_was kind name f e =
     elim (chosen (bytes_eq kind (codes "hosts")) _ _ (Some f) e) [
@@ -102,56 +106,81 @@ outer_was kind name f e =
           let n = then_some (λ host. Some (folder.Host host)) (nqn_of name) f c.1 in
           let is : folder.Host n.0 ≡ f = cc in
           let w = nqn_was name n.0 n.1 in
-          record { spelled = two_words kind name (codes "hosts") n.0 (same_bytes kind (codes "hosts") c.0) w.0 ∙ ap folder_parts is; fits = rw (← is) w.1 }
+          record {
+            spelled = two_words kind name (codes "hosts") n.0 (same_bytes kind
+                (codes "hosts") c.0) w.0 ∙ ap folder_parts is;
+            fits = rw (← is) w.1;
+          }
       | inr c ↦ elim (chosen (bytes_eq kind (codes "subsystems")) _ _ (Some f) c.1) [
         | inl d ↦
             let n = then_some (λ sub. Some (folder.Subsystem sub)) (nqn_of name) f d.1 in
             let is : folder.Subsystem n.0 ≡ f = cc in
             let w = nqn_was name n.0 n.1 in
-            record { spelled = two_words kind name (codes "subsystems") n.0 (same_bytes kind (codes "subsystems") d.0) w.0 ∙ ap folder_parts is; fits = rw (← is) w.1 }
+            record {
+              spelled = two_words kind name (codes "subsystems") n.0 (same_bytes kind
+                  (codes "subsystems") d.0) w.0 ∙ ap folder_parts is;
+              fits = rw (← is) w.1;
+            }
         | inr d ↦ elim (chosen (bytes_eq kind (codes "ports")) _ _ (Some f) d.1) [
           | inl p ↦
               let n = then_some (λ id. Some (folder.Port id)) (number_below (2 ^ 16) name) f p.1 in
               let is : folder.Port n.0 ≡ f = cc in
               let w = below_spelled (2 ^ 16) n.0 name n.1 in
-              record { spelled = two_words kind name (codes "ports") (decimal n.0) (same_bytes kind (codes "ports") p.0) w.0 ∙ ap folder_parts is; fits = rw (← is) w.1 }
+              record {
+                spelled = two_words kind name (codes "ports") (decimal n.0) (same_bytes kind
+                    (codes "ports") p.0) w.0 ∙ ap folder_parts is;
+                fits = rw (← is) w.1;
+              }
           | inr p ↦ absurd (none_some f p.1)
         ]
       ]
     ]
 
-inner_was : (kind name inner last : List ℕ) (f : Folder) → inner_folder kind name inner last ≡ Some f
+inner_was : (kind name inner last : List ℕ) (f : Folder)
+    → inner_folder kind name inner last ≡ Some f
     → IsFolder (kind ∷ name ∷ inner ∷ last ∷ []) f
 unfolding inner_folder
 inner_was kind name inner last f e =
-    elim (chosen (bytes_eq kind (codes "subsystems") && bytes_eq inner (codes "namespaces")) _ _ (Some f) e) [
+    elim (chosen (bytes_eq kind (codes "subsystems") && bytes_eq inner (codes "namespaces")) _ _
+    (Some f) e) [
       | inl c ↦
-          let k = and-parts (bytes_eq kind (codes "subsystems")) (bytes_eq inner (codes "namespaces")) c.0 in
-          let s = then_some (λ sub. option_and_then (λ nsid. Some (folder.Namespace sub nsid)) (number_below (2 ^ 32) last)) (nqn_of name) f c.1 in
-          let n = then_some (λ nsid. Some (folder.Namespace s.0 nsid)) (number_below (2 ^ 32) last) f s.2 in
+          let k = and-parts (bytes_eq kind (codes "subsystems")) (bytes_eq inner
+          (codes "namespaces")) c.0 in
+          let s = then_some (λ sub. option_and_then (λ nsid. Some (folder.Namespace sub nsid))
+          (number_below (2 ^ 32) last)) (nqn_of name) f c.1 in
+          let n = then_some (λ nsid. Some (folder.Namespace s.0 nsid)) (number_below
+          (2 ^ 32) last) f s.2 in
           let is : folder.Namespace s.0 n.0 ≡ f = cc in
           let w = nqn_was name s.0 s.1 in
           let d = below_spelled (2 ^ 32) n.0 last n.1 in
           record {
-            spelled = four_words kind name inner last (codes "subsystems") s.0 (codes "namespaces") (decimal n.0)
-                (same_bytes kind (codes "subsystems") k.0) w.0 (same_bytes inner (codes "namespaces") k.1) d.0 ∙ ap folder_parts is;
+            spelled = four_words kind name inner last (codes "subsystems") s.0 (codes "namespaces")
+                (decimal n.0)
+                (same_bytes kind (codes "subsystems") k.0) w.0 (same_bytes inner
+                (codes "namespaces") k.1) d.0 ∙ ap folder_parts is;
             fits = rw (← is) (both_true (is_nqn s.0) (ltb n.0 (2 ^ 32)) w.1 d.1);
           }
-      | inr c ↦ elim (chosen (bytes_eq kind (codes "ports") && bytes_eq inner (codes "ana_groups")) _ _ (Some f) c.1) [
-        | inl p ↦
-            let k = and-parts (bytes_eq kind (codes "ports")) (bytes_eq inner (codes "ana_groups")) p.0 in
-            let s = then_some (λ id. option_and_then (λ group. Some (folder.AnaGroup id group)) (number_below (2 ^ 32) last)) (number_below (2 ^ 16) name) f p.1 in
-            let n = then_some (λ group. Some (folder.AnaGroup s.0 group)) (number_below (2 ^ 32) last) f s.2 in
-            let is : folder.AnaGroup s.0 n.0 ≡ f = cc in
-            let w = below_spelled (2 ^ 16) s.0 name s.1 in
-            let d = below_spelled (2 ^ 32) n.0 last n.1 in
-            record {
-              spelled = four_words kind name inner last (codes "ports") (decimal s.0) (codes "ana_groups") (decimal n.0)
-                  (same_bytes kind (codes "ports") k.0) w.0 (same_bytes inner (codes "ana_groups") k.1) d.0 ∙ ap folder_parts is;
-              fits = rw (← is) (both_true (ltb s.0 (2 ^ 16)) (ltb n.0 (2 ^ 32)) w.1 d.1);
-            }
-        | inr p ↦ absurd (none_some f p.1)
-      ]
+      | inr c ↦ elim (chosen (bytes_eq kind (codes "ports") && bytes_eq inner
+          (codes "ana_groups")) _ _ (Some f) c.1) [
+            | inl p ↦
+                let k = and-parts (bytes_eq kind (codes "ports")) (bytes_eq inner
+                (codes "ana_groups")) p.0 in
+                let s = then_some (λ id. option_and_then (λ group. Some (folder.AnaGroup id group))
+                (number_below (2 ^ 32) last)) (number_below (2 ^ 16) name) f p.1 in
+                let n = then_some (λ group. Some (folder.AnaGroup s.0 group)) (number_below
+                (2 ^ 32) last) f s.2 in
+                let is : folder.AnaGroup s.0 n.0 ≡ f = cc in
+                let w = below_spelled (2 ^ 16) s.0 name s.1 in
+                let d = below_spelled (2 ^ 32) n.0 last n.1 in
+                record {
+                  spelled = four_words kind name inner last (codes "ports") (decimal s.0)
+                      (codes "ana_groups") (decimal n.0)
+                      (same_bytes kind (codes "ports") k.0) w.0 (same_bytes inner
+                      (codes "ana_groups") k.1) d.0 ∙ ap folder_parts is;
+                  fits = rw (← is) (both_true (ltb s.0 (2 ^ 16)) (ltb n.0 (2 ^ 32)) w.1 d.1);
+                }
+            | inr p ↦ absurd (none_some f p.1)
+          ]
     ]
 
 folder_was : (parts : List (List ℕ)) (f : Folder) → folder_of parts ≡ Some f → IsFolder parts f
@@ -180,14 +209,36 @@ record SaysLink (made : Bool) (parts : List (List ℕ)) (l : LinkEdit) : Type 0 
   fits : fits_link l ≡ true
 
 host_says : (made : Bool) (sub host : List ℕ) → is_nqn sub ≡ true → is_nqn host ≡ true
-    → SaysLink made (codes "subsystems" ∷ sub ∷ codes "allowed_hosts" ∷ host ∷ []) (host_link made sub host)
-host_says true sub host e f = record { spelled = refl; verbed = refl; fits = both_true (is_nqn sub) (is_nqn host) e f }
-host_says false sub host e f = record { spelled = refl; verbed = refl; fits = both_true (is_nqn sub) (is_nqn host) e f }
+    → SaysLink made (codes "subsystems" ∷ sub ∷ codes "allowed_hosts" ∷ host ∷ [])
+    (host_link made sub host)
+host_says true sub host e f = record {
+  spelled = refl;
+  verbed = refl;
+  fits = both_true (is_nqn sub)
+      (is_nqn host) e f;
+}
+host_says false sub host e f = record {
+  spelled = refl;
+  verbed = refl;
+  fits = both_true
+      (is_nqn sub) (is_nqn host) e f;
+}
 
 port_says : (made : Bool) (id : ℕ) (sub : List ℕ) → ltb id (2 ^ 16) ≡ true → is_nqn sub ≡ true
-    → SaysLink made (codes "ports" ∷ decimal id ∷ codes "subsystems" ∷ sub ∷ []) (port_link made id sub)
-port_says true id sub e f = record { spelled = refl; verbed = refl; fits = both_true (ltb id (2 ^ 16)) (is_nqn sub) e f }
-port_says false id sub e f = record { spelled = refl; verbed = refl; fits = both_true (ltb id (2 ^ 16)) (is_nqn sub) e f }
+    → SaysLink made (codes "ports" ∷ decimal id ∷ codes "subsystems" ∷ sub ∷ [])
+    (port_link made id sub)
+port_says true id sub e f = record {
+  spelled = refl;
+  verbed = refl;
+  fits = both_true (ltb id
+      (2 ^ 16)) (is_nqn sub) e f;
+}
+port_says false id sub e f = record {
+  spelled = refl;
+  verbed = refl;
+  fits = both_true (ltb id
+      (2 ^ 16)) (is_nqn sub) e f;
+}
 
 says_same : (made : Bool) (parts others : List (List ℕ)) (l k : LinkEdit) → parts ≡ others → l ≡ k
     → SaysLink made others l → SaysLink made parts k
@@ -198,36 +249,53 @@ says_same made parts others l k e f s = record {
 }
 
 between_was : (made : Bool) (kind name inner last : List ℕ) (l : LinkEdit)
-    → link_between made kind name inner last ≡ Some l → SaysLink made (kind ∷ name ∷ inner ∷ last ∷ []) l
+    → link_between made kind name inner last ≡ Some l
+    → SaysLink made (kind ∷ name ∷ inner ∷ last ∷ []) l
 unfolding link_between
 between_was made kind name inner last l e =
-    elim (chosen (bytes_eq kind (codes "subsystems") && bytes_eq inner (codes "allowed_hosts")) _ _ (Some l) e) [
+    elim (chosen (bytes_eq kind (codes "subsystems") && bytes_eq inner (codes "allowed_hosts")) _ _
+    (Some l) e) [
       | inl c ↦
-          let k = and-parts (bytes_eq kind (codes "subsystems")) (bytes_eq inner (codes "allowed_hosts")) c.0 in
-          let s = then_some (λ sub. option_and_then (λ host. Some (host_link made sub host)) (nqn_of last)) (nqn_of name) l c.1 in
+          let k = and-parts (bytes_eq kind (codes "subsystems")) (bytes_eq inner
+          (codes "allowed_hosts")) c.0 in
+          let s = then_some (λ sub. option_and_then (λ host. Some (host_link made sub host))
+          (nqn_of last)) (nqn_of name) l c.1 in
           let h = then_some (λ host. Some (host_link made s.0 host)) (nqn_of last) l s.2 in
           let is : host_link made s.0 h.0 ≡ l = cc in
           let w = nqn_was name s.0 s.1 in
           let v = nqn_was last h.0 h.1 in
-          says_same made (kind ∷ name ∷ inner ∷ last ∷ []) (codes "subsystems" ∷ s.0 ∷ codes "allowed_hosts" ∷ h.0 ∷ []) (host_link made s.0 h.0) l
-          (four_words kind name inner last (codes "subsystems") s.0 (codes "allowed_hosts") h.0 (same_bytes kind (codes "subsystems") k.0) w.0 (same_bytes inner (codes "allowed_hosts") k.1) v.0)
+          says_same made (kind ∷ name ∷ inner ∷ last ∷ [])
+          (codes "subsystems" ∷ s.0 ∷ codes "allowed_hosts" ∷ h.0 ∷ [])
+          (host_link made s.0 h.0) l
+          (four_words kind name inner last (codes "subsystems") s.0 (codes "allowed_hosts") h.0
+          (same_bytes kind (codes "subsystems") k.0) w.0 (same_bytes inner
+          (codes "allowed_hosts") k.1) v.0)
           is (host_says made s.0 h.0 w.1 v.1)
-      | inr c ↦ elim (chosen (bytes_eq kind (codes "ports") && bytes_eq inner (codes "subsystems")) _ _ (Some l) c.1) [
-        | inl p ↦
-            let k = and-parts (bytes_eq kind (codes "ports")) (bytes_eq inner (codes "subsystems")) p.0 in
-            let s = then_some (λ id. option_and_then (λ sub. Some (port_link made id sub)) (nqn_of last)) (number_below (2 ^ 16) name) l p.1 in
-            let h = then_some (λ sub. Some (port_link made s.0 sub)) (nqn_of last) l s.2 in
-            let is : port_link made s.0 h.0 ≡ l = cc in
-            let w = below_spelled (2 ^ 16) s.0 name s.1 in
-            let v = nqn_was last h.0 h.1 in
-            says_same made (kind ∷ name ∷ inner ∷ last ∷ []) (codes "ports" ∷ decimal s.0 ∷ codes "subsystems" ∷ h.0 ∷ []) (port_link made s.0 h.0) l
-            (four_words kind name inner last (codes "ports") (decimal s.0) (codes "subsystems") h.0 (same_bytes kind (codes "ports") k.0) w.0 (same_bytes inner (codes "subsystems") k.1) v.0)
-            is (port_says made s.0 h.0 w.1 v.1)
-        | inr p ↦ absurd (none_some l p.1)
-      ]
+      | inr c ↦ elim (chosen (bytes_eq kind (codes "ports") && bytes_eq inner
+          (codes "subsystems")) _ _ (Some l) c.1) [
+            | inl p ↦
+                let k = and-parts (bytes_eq kind (codes "ports")) (bytes_eq inner
+                (codes "subsystems")) p.0 in
+                let s = then_some (λ id. option_and_then (λ sub. Some (port_link made id sub))
+                (nqn_of last)) (number_below (2 ^ 16) name) l p.1 in
+                let h = then_some (λ sub. Some (port_link made s.0 sub)) (nqn_of last) l s.2 in
+                let is : port_link made s.0 h.0 ≡ l = cc in
+                let w = below_spelled (2 ^ 16) s.0 name s.1 in
+                let v = nqn_was last h.0 h.1 in
+                says_same made (kind ∷ name ∷ inner ∷ last ∷ [])
+                (codes "ports" ∷ decimal s.0 ∷ codes "subsystems" ∷ h.0 ∷ [])
+                (port_link made s.0 h.0) l
+                (four_words kind name inner last (codes "ports") (decimal s.0)
+                (codes "subsystems") h.0
+                (same_bytes kind (codes "ports") k.0) w.0 (same_bytes inner
+                (codes "subsystems") k.1) v.0)
+                is (port_says made s.0 h.0 w.1 v.1)
+            | inr p ↦ absurd (none_some l p.1)
+          ]
     ]
 
-link_was : (made : Bool) (parts : List (List ℕ)) (l : LinkEdit) → link_of made parts ≡ Some l → SaysLink made parts l
+link_was : (made : Bool) (parts : List (List ℕ)) (l : LinkEdit) → link_of made parts ≡ Some l
+    → SaysLink made parts l
 link_was made [] l e = absurd (none_some l e)
 link_was made (kind ∷ []) l e = absurd (none_some l e)
 link_was made (kind ∷ name ∷ []) l e = absurd (none_some l e)
@@ -240,33 +308,49 @@ pub record IsSaid (words : List (List ℕ)) (e : Edit) : Type 0 where
   pub spelled : words ≡ edit_words e
   pub fits : fits e ≡ true
 
-folder_says : (word path : List ℕ) (verbing : List ℕ) (f : Folder) → word ≡ verbing → folder_in path ≡ Some f
+folder_says : (word path : List ℕ) (verbing : List ℕ) (f : Folder) → word ≡ verbing
+    → folder_in path ≡ Some f
     → word ∷ path ∷ [] ≡ verbing ∷ path_of (folder_parts f) ∷ []
-folder_says word path verbing f e g = two_words word path verbing (path_of (folder_parts f)) e (path_was path f g).0
+folder_says word path verbing f e g = two_words word path verbing (path_of (folder_parts f)) e
+    (path_was path f g).0
 
-link_says : (made : Bool) (word path : List ℕ) (l : LinkEdit) (e : Edit) → word ≡ verb made → link_in made path ≡ Some l
+link_says : (made : Bool) (word path : List ℕ) (l : LinkEdit) (e : Edit) → word ≡ verb made
+    → link_in made path ≡ Some l
     → edit.Link l ≡ e → IsSaid (word ∷ path ∷ []) e
 link_says made word path l e is g same =
     let w = link_was made (parts_of path) l g in
-    let p : path ≡ path_of (link_parts l) = sym (join_with_byte-slice_split 47 path) ∙ ap path_of w.spelled in
+    let p : path ≡ path_of (link_parts l) = sym (join_with_byte-slice_split 47 path)
+    ∙ ap path_of w.spelled in
     record {
-      spelled = two_words word path (link_verb l) (path_of (link_parts l)) (is ∙ w.verbed) p ∙ ap edit_words same;
+      spelled = two_words word path (link_verb l) (path_of (link_parts l)) (is ∙ w.verbed) p
+          ∙ ap edit_words same;
       fits = rw (← same) w.fits;
     }
 
-path_said_was : (word path : List ℕ) (e : Edit) → path_said word path ≡ Some e → IsSaid (word ∷ path ∷ []) e
+path_said_was : (word path : List ℕ) (e : Edit) → path_said word path ≡ Some e
+    → IsSaid (word ∷ path ∷ []) e
 unfolding path_said
 path_said_was word path e h =
     elim (chosen (bytes_eq word (codes "mkdir")) _ _ (Some e) h) [
       | inl c ↦
           let f = then_some (λ f. Some (edit.Folder (make.Mkdir f))) (folder_in path) e c.1 in
           let is : edit.Folder (make.Mkdir f.0) ≡ e = cc in
-          record { spelled = folder_says word path (codes "mkdir") f.0 (same_bytes word (codes "mkdir") c.0) f.1 ∙ ap edit_words is; fits = rw (← is) (path_was path f.0 f.1).1 }
+          record {
+            spelled = folder_says word path (codes "mkdir") f.0 (same_bytes word
+                (codes "mkdir") c.0) f.1 ∙ ap edit_words is;
+            fits = rw (← is)
+                (path_was path f.0 f.1).1;
+          }
       | inr c ↦ elim (chosen (bytes_eq word (codes "rmdir")) _ _ (Some e) c.1) [
         | inl d ↦
             let f = then_some (λ f. Some (edit.Folder (make.Rmdir f))) (folder_in path) e d.1 in
             let is : edit.Folder (make.Rmdir f.0) ≡ e = cc in
-            record { spelled = folder_says word path (codes "rmdir") f.0 (same_bytes word (codes "rmdir") d.0) f.1 ∙ ap edit_words is; fits = rw (← is) (path_was path f.0 f.1).1 }
+            record {
+              spelled = folder_says word path (codes "rmdir") f.0 (same_bytes word
+                  (codes "rmdir") d.0) f.1 ∙ ap edit_words is;
+              fits = rw (← is)
+                  (path_was path f.0 f.1).1;
+            }
         | inr d ↦ elim (chosen (bytes_eq word (codes "link")) _ _ (Some e) d.1) [
           | inl l ↦
               let k = then_some (λ l. Some (edit.Link l)) (link_in true path) e l.1 in
@@ -286,22 +370,28 @@ path_said_was word path e h =
 set_of_was : (f : Folder) (a : Attr) (value : List ℕ) (e : Edit) → set_of f a value ≡ Some e
     → (is_fitting (make.Set f a value) ≡ true) × (edit.Folder (make.Set f a value) ≡ e)
 unfolding set_of
-set_of_was f a value e h = cond_some (is_fitting (make.Set f a value)) (edit.Folder (make.Set f a value)) e h
+set_of_was f a value e h = cond_some (is_fitting (make.Set f a value)) (edit.Folder
+    (make.Set f a value)) e h
 
-set_said_was : (word path attribute value : List ℕ) (e : Edit) → set_said word path attribute value ≡ Some e
+set_said_was : (word path attribute value : List ℕ) (e : Edit)
+    → set_said word path attribute value ≡ Some e
     → IsSaid (word ∷ path ∷ attribute ∷ value ∷ []) e
 unfolding set_said
 set_said_was word path attribute value e h =
     elim (chosen (bytes_eq word (codes "set")) _ _ (Some e) h) [
       | inl c ↦
-          let f = then_some (λ f. option_and_then (λ a. set_of f a value) (attr_named attribute)) (folder_in path) e c.1 in
+          let f = then_some (λ f. option_and_then (λ a. set_of f a value) (attr_named attribute))
+          (folder_in path) e c.1 in
           let a = then_some (λ a. set_of f.0 a value) (attr_named attribute) e f.2 in
           let w = set_of_was f.0 a.0 value e a.2 in
           let p = path_was path f.0 f.1 in
           record {
-            spelled = four_words word path attribute value (codes "set") (path_of (folder_parts f.0)) (attr_word a.0) value
-                (same_bytes word (codes "set") c.0) p.0 (attr_was attribute all_attrs a.0 a.1) refl ∙ ap edit_words w.1;
-            fits = rw (← w.1) (both_true (fits_folder f.0) (is_fitting (make.Set f.0 a.0 value)) p.1 w.0);
+            spelled = four_words word path attribute value (codes "set") (path_of
+                (folder_parts f.0)) (attr_word a.0) value
+                (same_bytes word (codes "set") c.0) p.0 (attr_was attribute all_attrs a.0 a.1) refl
+                ∙ ap edit_words w.1;
+            fits = rw (← w.1) (both_true (fits_folder f.0) (is_fitting
+                (make.Set f.0 a.0 value)) p.1 w.0);
           }
       | inr c ↦ absurd (none_some e c.1)
     ]

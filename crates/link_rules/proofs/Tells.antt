@@ -132,7 +132,8 @@ module _ (t : Configuration) (id : ℕ) (sub : List ℕ) (linked : Bool) (p : Po
 
   port_differs : map.contains_key p.links sub ≡ not linked → v.settings ≡ t.settings → ⊥
   port_differs was e =
-      let here : Some (g p) ≡ Some p = sym (get_here nat_cmp_total nat_cmp-IsAntisymmetric n id g p found)
+      let here : Some (g p) ≡ Some p = sym (get_here nat_cmp_total nat_cmp-IsAntisymmetric n id g p
+      found)
       ∙ (ap (λ (x : Settings). map.get x.ports id) e ∙ found) in
       kept_differs nat_list_cmp_total p.links sub linked was
       (ap (λ (x : PortRow). x.links) (some_same (g p) p here))
@@ -154,13 +155,15 @@ module _ (t : Configuration) (id : ℕ) (sub : List ℕ) (linked : Bool) (p : Po
     subsystems = λ a. inl refl;
     ports = λ k. ⊎_elim
         (λ (is : k ≡ id). inr (p, inl (ap (λ (y : ℕ). map.get n y) is ∙ found), refl))
-        (λ ne. inl (ap port_front (get_beside nat_cmp_total nat_cmp-IsAntisymmetric n id g p found k ne)))
+        (λ ne. inl (ap port_front (get_beside nat_cmp_total nat_cmp-IsAntisymmetric n id g p found
+        k ne)))
         (cases_key nat_cmp_total nat_cmp-IsAntisymmetric k id);
     groups = λ k group. inl (look_same nat_cmp_total nat_cmp-IsAntisymmetric
         (λ (o : Option PortRow). group_in o group) n id g p found refl k);
   }
 
-  pub linked_tells : map.contains_key p.links sub ≡ not linked → Tells t v (touching (touches.Port p.at))
+  pub linked_tells : map.contains_key p.links sub ≡ not linked
+      → Tells t v (touching (touches.Port p.at))
   linked_tells was = record {
     published = inl (refl, port_differs was);
     spaces = λ a j. inl refl;

@@ -28,7 +28,8 @@ on_taken (Err d) P h e = absurd cc
 allowed_is : (t : Configuration) (sub host : List ℕ) (linked : Bool) (s : SubsystemRow)
     → SubsystemFound t sub s
     → with_allowed t s.at host linked ≡ on_subsystem t sub (put_allowed host linked)
-allowed_is t sub host linked s f = ap (λ (o : Option SubsystemRow). allowed_in t host linked o) f.stands
+allowed_is t sub host linked s f = ap (λ (o : Option SubsystemRow). allowed_in t host linked o)
+    f.stands
     ∙ ap (λ (n : List ℕ). on_subsystem t n (put_allowed host linked)) f.named
 
 pub allowed_told : (t u : Configuration) (sub host : List ℕ) (linked : Bool) (s : SubsystemRow)
@@ -47,7 +48,8 @@ allowed_left t u sub host linked s f is =
 linked_is : (t : Configuration) (id : ℕ) (sub : List ℕ) (linked : Bool) (p : PortRow)
     (s : SubsystemRow) → PortFound t id p → SubsystemFound t sub s
     → with_link t p.at s.at linked ≡ on_port t id (put_link sub linked)
-linked_is t id sub linked p s f g = ap (λ (o : Option PortRow). linked_in t linked o (subsystem_row t s.at)) f.stands
+linked_is t id sub linked p s f g = ap (λ (o : Option PortRow). linked_in t linked o
+    (subsystem_row t s.at)) f.stands
     ∙ (ap (λ (o : Option SubsystemRow). linked_in t linked (Some p) o) g.stands
     ∙ (ap (λ (n : List ℕ). on_port t p.id (put_link n linked)) g.named
     ∙ ap (λ (i : ℕ). on_port t i (put_link sub linked)) f.numbered))

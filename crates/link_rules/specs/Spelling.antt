@@ -1,5 +1,5 @@
 -- How edits are spelled as the words of a script line.
-use Rattle.std.specs.Prelude.{ℕ, ◌^◌, ◌&&◌, nat_lt, Bool, true, List, [], ◌∷◌, codes}
+use Rattle.std.specs.Prelude.{◌≡◌, ◌⊎◌, ℕ, ◌^◌, ◌&&◌, nat_lt, Bool, true, List, [], ◌∷◌, codes}
 use Rattle.std.specs.Fmt.{decimal}
 use Rattle.std.specs.List.{join_with_byte}
 use Rattle.configfs_rows.specs.Nqns.{is_nqn}
@@ -91,3 +91,17 @@ fits (edit.Folder (make.Mkdir f)) = fits_folder f
 fits (edit.Folder (make.Rmdir f)) = fits_folder f
 fits (edit.Folder (make.Set f a value)) = fits_folder f && is_fitting (make.Set f a value)
 fits (edit.Link e) = fits_link e
+
+-- ---- whole lines
+-- where an attribute is set to nothing, the space after it may lack
+abbrev pub IsShortLineOf : Edit → List ℕ → Type 0
+IsShortLineOf (edit.Folder (make.Mkdir f)) line = ⊥
+IsShortLineOf (edit.Folder (make.Rmdir f)) line = ⊥
+IsShortLineOf (edit.Folder (make.Set f a [])) line =
+    line ≡ join_with_byte 32 (codes "set" ∷ path_of (folder_parts f) ∷ attr_word a ∷ [])
+IsShortLineOf (edit.Folder (make.Set f a (b ∷ value))) line = ⊥
+IsShortLineOf (edit.Link e) line = ⊥
+
+-- the line of an edit is its words, with one space between each two
+abbrev pub IsLineOf : Edit → List ℕ → Type 0
+IsLineOf e line = (line ≡ join_with_byte 32 (edit_words e)) ⊎ IsShortLineOf e line

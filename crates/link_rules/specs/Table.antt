@@ -1,6 +1,7 @@
--- The table of edits on links, in the table's order, and the whole table. Each edit is decided by the
--- first of its rows, from the top, whose condition holds. If none holds it is accepted. Either end of
--- a link must be there, and a link that is taken away too; what isn't is ENOENT, before any row.
+-- The table of edits on links, in the table's order, and the whole table. Each edit is decided by
+-- the first of its rows, from the top, whose condition holds. If none holds it is accepted. Either
+-- end of a link must be there, and a link that is taken away too; what isn't is ENOENT, before any
+-- row.
 use Rattle.std.specs.Prelude.{ℕ, not, Bool, true, false, List, [], ◌∷◌, codes}
 use Rattle.std.specs.Str.{bytes_eq}
 use Rattle.std.specs.FinMap as map

@@ -1,5 +1,5 @@
 -- Bytes that grow within room that was found before.
-use Rattle.std.specs.Prelude.{ℕ, ◌+◌, ◌≤◌, List, ◌++◌, length, take, drop, replicate}
+use Rattle.std.specs.Prelude.{ℕ, ◌+◌, ◌≤◌, List, ◌++◌, length, take, drop}
 
 -- the bytes, and how many there is room for in all
 pub record Text : Type 0 where

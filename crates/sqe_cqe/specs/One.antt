@@ -3,12 +3,13 @@ use Rattle.std.specs.Prelude.{◌==◌, if◌then◌else◌}
 use Rattle.sqe_cqe.specs.declared.rows.Seen.TheVariants.{NotConfigured}
 use Rattle.sqe_cqe.specs.declared.rows.Ana.TheVariants.{Inaccessible}
 use Rattle.sqe_cqe.specs.declared.rows.Offers.{Offers}
+use Rattle.sqe_cqe.specs.declared.rows.TheConstants.{MAX_NSID}
 use Rattle.sqe_cqe.specs.declared.one.OneRow.{OneRow}
 use Rattle.sqe_cqe.specs.Answers.{Answers}
 
 -- NSIDs up to 2,048, and Write Zeroes
 abbrev pub plain_offers : Offers
-plain_offers = record { nsids = 2048; oncs = 8; nwpc = 0; rescap = 0 }
+plain_offers = record { nsids = MAX_NSID; oncs = 8; nwpc = 0; rescap = 0 }
 
 -- one answer at every position, since there is one controller, one subsystem and one port
 abbrev pub one_answers : OneRow → Answers

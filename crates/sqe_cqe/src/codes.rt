@@ -3,6 +3,15 @@
 /// Opcode of a fabrics command (NVMe over Fabrics 1.1, 3).
 pub const FABRICS: u8 = 0x7f;
 
+/// FCTYPE of Property Set (NVMe over Fabrics 1.1, 3.6).
+pub const PROPERTY_SET: u8 = 0x00;
+
+/// FCTYPE of Connect (NVMe over Fabrics 1.1, 3.3).
+pub const CONNECT: u8 = 0x01;
+
+/// FCTYPE of Property Get (NVMe over Fabrics 1.1, 3.5).
+pub const PROPERTY_GET: u8 = 0x04;
+
 /// Opcode of Flush (NVMe Base 2.0, Flush command).
 pub const FLUSH: u8 = 0x00;
 
@@ -38,6 +47,15 @@ pub const DATA_SGL_LENGTH_INVALID: u16 = 0x801e;
 
 /// Status field LBA Out of Range, with Do Not Retry.
 pub const LBA_OUT_OF_RANGE: u16 = 0x8100;
+
+/// Status field Connect Incompatible Format, with Do Not Retry.
+pub const CONNECT_INCOMPATIBLE_FORMAT: u16 = 0x8300;
+
+/// Status field Connect Invalid Parameters, with Do Not Retry.
+pub const CONNECT_INVALID_PARAMETERS: u16 = 0x8304;
+
+/// Status field Connect Invalid Host, with Do Not Retry.
+pub const CONNECT_INVALID_HOST: u16 = 0x8308;
 
 /// Status field Internal Path Error.
 pub const INTERNAL_PATH_ERROR: u16 = 0x0600;

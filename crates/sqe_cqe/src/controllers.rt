@@ -1,4 +1,4 @@
-ghost use Rattle.std.specs.Prelude.{◌≡◌, ◌≤◌, [], IfOk, length};
+ghost use Rattle.std.specs.Prelude.{◌≡◌, ◌≤◌, ◌<◌, [], ◌∷◌, ◌++◌, IfOk, length, slice_set};
 ghost use Rattle.sqe_cqe.specs.Ready.{filled, is_ready_row, ready_in, simple_ctrl, simple_rows};
 
 use std::alloc::{AllocError, Global};
@@ -72,9 +72,9 @@ impl Model for Controllers {
 // CC with EN set and queue entries of 64 and 16 bytes (IOSQES 6, IOCQES 4).
 const ENABLED: u32 = 0x0046_0001;
 
-// Writes a text at the front of a field and fills up the rest.
+/// Writes a text, which is no longer than the field, at the front of it and fills up the rest.
 #[tactic(auto, unfolding(crate::specs::Ready::filled))]
-fn put_text(field: &mut [u8], text: &[u8], fill: u8)
+pub fn put_text(field: &mut [u8], text: &[u8], fill: u8)
     requires { length text.now ≤ length field.old }
     ensures { field.new ≡ filled (length field.old) fill text.now }
 {
@@ -140,6 +140,29 @@ impl Controllers {
             qids: 1,
         })?;
         Ok(Controllers { rows })
+    }
+
+    /// The controllers in the order of their numbers: number n stands at n - 1.
+    pub fn rows(&self) -> &[ControllerRow]
+        ensures { result.now ≡ self.now }
+    {
+        &self.rows
+    }
+
+    /// Makes the next controller. There are fewer than 31 before, so no memory is taken.
+    pub fn add(&mut self, row: ControllerRow)
+        requires { length self.old < 31 }
+        ensures { self.new ≡ self.old ++ row ∷ [] }
+    {
+        self.rows.push_reserved(row);
+    }
+
+    /// Puts another row at a place, counted from 0, where a controller stands.
+    pub fn put(&mut self, at: usize, row: ControllerRow)
+        requires { at < length self.old }
+        ensures { self.new ≡ slice_set self.old at row }
+    {
+        self.rows[at] = row;
     }
 }
 

@@ -10,6 +10,7 @@
 #![tactic(auto)]
 
 mod codes;
+mod connect;
 mod controllers;
 mod cqe;
 mod law;
@@ -22,15 +23,21 @@ mod tests;
 mod way;
 
 pub use codes::{
-    ANA_INACCESSIBLE, ANA_PERSISTENT_LOSS, ANA_TRANSITION, COMMAND_SEQUENCE_ERROR,
+    ANA_INACCESSIBLE, ANA_PERSISTENT_LOSS, ANA_TRANSITION, COMMAND_SEQUENCE_ERROR, CONNECT,
+    CONNECT_INCOMPATIBLE_FORMAT, CONNECT_INVALID_HOST, CONNECT_INVALID_PARAMETERS,
     DATA_SGL_LENGTH_INVALID, FABRICS, FLUSH, INTERNAL_PATH_ERROR, INVALID_FIELD, INVALID_NAMESPACE,
-    INVALID_OPCODE, LBA_OUT_OF_RANGE, READ, SGL, SUCCESS, WRITE, WRITE_ZEROES,
+    INVALID_OPCODE, LBA_OUT_OF_RANGE, PROPERTY_GET, PROPERTY_SET, READ, SGL, SUCCESS, WRITE,
+    WRITE_ZEROES,
 };
-pub use controllers::{Binding, Bound, ControllerRow, Controllers, Ctrl, ready};
+pub use connect::{
+    ConnectData, attributes, is_long_property, keep_alive, property_offset, property_value, qid,
+    queue_size, read_connect, record_format,
+};
+pub use controllers::{Binding, Bound, ControllerRow, Controllers, Ctrl, put_text, ready};
 pub use cqe::{Cqe, read_cqe, write_cqe};
-pub use law::{cqe_bytes_again, sqe_bytes_again};
+pub use law::{connect_data_again, cqe_bytes_again, fabrics_fields_stand, sqe_bytes_again};
 pub use look::Look;
 pub use one::{OneLook, OneRow};
-pub use rows::{Ana, NsRow, Offers, Seen, ana_text_again};
+pub use rows::{Ana, MAX_NSID, NsRow, Offers, Seen, ana_text_again};
 pub use sqe::{Sqe, data_len, direction, fctype, read_sqe, write_sqe};
 pub use way::Direction;

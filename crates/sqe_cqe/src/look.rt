@@ -1,5 +1,6 @@
 ghost use Rattle.std.specs.Prelude.{◌≡◌, ◌≤◌, ◌+◌, ℕ};
 ghost use Rattle.sqe_cqe.specs.Answers.{Answers, HasShape};
+ghost use Rattle.sqe_cqe.specs.declared.rows.TheConstants.{MAX_NSID};
 
 use crate::rows::{Ana, Offers, Seen};
 
@@ -74,6 +75,7 @@ pub trait Look {
     /// What the target offers, by the fields of Identify.
     fn offers(&mut self) -> Offers
         ensures value { result ≡ (told (behind self.old)).offers }
+        ensures nsids { result.nsids ≤ MAX_NSID }
         ensures behind { behind self.new ≡ behind self.old };
 
     /// The attributes of a namespace (NSATTR), 0 for none.

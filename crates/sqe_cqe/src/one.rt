@@ -2,7 +2,7 @@ ghost use Rattle.std.specs.Prelude.{◌≡◌};
 ghost use Rattle.sqe_cqe.specs.Answers.{HasShape, shape-once};
 
 use crate::look::Look;
-use crate::rows::{Ana, Offers, Seen};
+use crate::rows::{Ana, MAX_NSID, Offers, Seen};
 
 /// A configuration with one controller, one subsystem whose only NSID in use is 1, and one port whose only ANA group is
 /// group 1: that of a simple plan, and of small tests.
@@ -102,7 +102,7 @@ impl<'a> Look for OneLook<'a> {
 
     fn offers(&mut self) -> Offers {
         Offers {
-            nsids: 2048,
+            nsids: MAX_NSID,
             oncs: 0x0008,
             nwpc: 0,
             rescap: 0,

@@ -95,10 +95,13 @@ pub fn ana_text_again(_value: &[u8], _a: Ana)
     ensures { AnaNamesAgain _value.now _a }
 {}
 
+/// The highest NSID that any target offers, counted from 1. FFFFFFFFh names all namespaces and is above it.
+pub const MAX_NSID: u32 = 2048;
+
 /// What a target offers, by the fields of Identify that tell it.
 #[derive(Clone, Copy, Debug, PartialEq, Eq)]
 pub struct Offers {
-    /// The highest NSID (NN).
+    /// The highest NSID (NN), at most `MAX_NSID`.
     pub nsids: u32,
     /// Optional NVM commands (ONCS); 0008h is Write Zeroes.
     pub oncs: u16,

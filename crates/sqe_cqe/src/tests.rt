@@ -52,6 +52,38 @@ fn a_completion_and_its_bytes(rt: HostRuntime) {
     assert_eq!(rt; write_cqe(&c), bytes);
 }
 
+#[test]
+fn the_parts_of_connect_data(rt: HostRuntime) {
+    let mut bytes = [0xee; 1024];
+    bytes[..16].copy_from_slice(b"0123456789abcdef");
+    bytes[16..18].copy_from_slice(&[0x34, 0x12]);
+    bytes[256..512].copy_from_slice(&[b's'; 256]);
+    bytes[512..768].copy_from_slice(&[b'h'; 256]);
+    let data = read_connect(&bytes);
+    assert_eq!(rt; data.host_id, *b"0123456789abcdef");
+    assert_eq!(rt; data.cntlid, 0x1234);
+    assert_eq!(rt; data.subnqn, [b's'; 256]);
+    assert_eq!(rt; data.hostnqn, [b'h'; 256]);
+}
+
+#[test]
+fn the_fields_of_fabrics_commands(rt: HostRuntime) {
+    let mut bytes = [0; 64];
+    bytes[40..56].copy_from_slice(&[
+        0x01, 0x02, 0x03, 0x04, 0x05, 0x06, 0x07, 0x08, 0x09, 0x0a, 0x0b, 0x0c, 0x0d, 0x0e, 0x0f,
+        0x10,
+    ]);
+    let e = read_sqe(&bytes);
+    assert_eq!(rt; record_format(&e), 0x0201);
+    assert_eq!(rt; qid(&e), 0x0403);
+    assert_eq!(rt; queue_size(&e), 0x0605);
+    assert_eq!(rt; attributes(&e), 0x07);
+    assert_eq!(rt; keep_alive(&e), 0x0c0b_0a09);
+    assert!(rt; is_long_property(&e));
+    assert_eq!(rt; property_offset(&e), 0x0807_0605);
+    assert_eq!(rt; property_value(&e), 0x100f_0e0d_0c0b_0a09);
+}
+
 const ROW: NsRow = NsRow {
     disk: 3,
     shift: 12,
@@ -122,5 +154,37 @@ fn the_controller_of_a_simple_plan_is_ready(rt: HostRuntime) -> Result<(), Fail>
         assert!(rt; !ready(&none, number), "{number} of none");
         assert_eq!(rt; ready(&one, number), want, "{number} of one");
     }
+    Ok(())
+}
+
+const DISABLED: ControllerRow = ControllerRow {
+    ctrl: Ctrl {
+        bound: Bound {
+            ctrl: 1,
+            qid: 0,
+            sub: 2,
+            port: 3,
+        },
+        since: 0,
+        subnqn: [0; 256],
+        serial: [b'0'; 20],
+        model_name: [b' '; 40],
+    },
+    host: [0; 256],
+    cc: 0x0046_0001,
+    csts: 0,
+    qids: 0,
+};
+
+#[test]
+fn a_controller_that_is_added_and_changed(rt: HostRuntime) -> Result<(), Fail> {
+    let mut controllers = Controllers::new(rt.alloc())?;
+    controllers.add(DISABLED);
+    assert!(rt; !ready(&controllers, 1));
+    let mut row = DISABLED;
+    row.csts = 1;
+    controllers.put(0, row);
+    assert!(rt; ready(&controllers, 1));
+    assert_eq!(rt; controllers.rows().len(), 1);
     Ok(())
 }

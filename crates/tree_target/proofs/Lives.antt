@@ -36,7 +36,7 @@ use Rattle.configfs_tree.specs.Outcome.{Outcome, Refuses, Accepts}
 use Rattle.configfs_tree.specs.Phases.{phase_at}
 use Rattle.configfs_tree.specs.Standing.{IsStanding}
 use Rattle.configfs_tree.specs.Table.{mkdir_host, mkdir_subsystem, mkdir_namespace, mkdir_port, mkdir_ana_group, rmdir_host, rmdir_subsystem, rmdir_namespace, rmdir_port, rmdir_ana_group, set_attr_allow_any_host, set_attr_serial, set_attr_model, set_device_path, set_identifier, put_group_of, set_ana_grpid, set_enable, set_address, set_addr_trtype, set_addr_adrfam, set_addr_treq, set_addr_traddr, set_addr_trsvcid, put_state, set_ana_state, mkdir, rmdir, set_of_subsystem, set_of_namespace, set_of_port, set_of_group, set as set_outcome}
-use Rattle.configfs_tree.proofs.Holds.{Holds, accepted, refuses, holds_row, holds_end, holds_last, holds_either, holds_unless, holds_if_subsystem, holds_if_namespace, holds_if_port, holds_if_group, holds_parsed}
+use Rattle.configfs_tree.proofs.Holds.{Holds, accepted, refuses, holds_row, holds_end, holds_last, holds_either, holds_unless, holds_if_subsystem, holds_if_rows, holds_if_port, holds_if_group, holds_parsed}
 use Rattle.tree_target.specs.declared.calls.Command.{Command}
 use Rattle.tree_target.specs.Edits.{Edit, outcome}
 use Rattle.tree_target.specs.Model.{Call, Submit, Execute, Poll, Control, AnEdit, DrainEnd, Target}
@@ -104,8 +104,8 @@ k_rmdir t (folder.Host host) =
     holds_row _ _ _ _ (λ _. holds_last _ _ _ _ (λ _ i h e. e))
 k_rmdir t (folder.Subsystem sub) = holds_if_subsystem _ _ (λ s _.
     holds_row _ _ _ _ (λ _. holds_last _ _ _ _ (λ _ i h e. e)))
-k_rmdir t (folder.Namespace sub nsid) = holds_if_subsystem _ _ (λ s _.
-    holds_if_namespace _ _ (λ n _. holds_last _ _ _ _ (λ _ i h e. e)))
+k_rmdir t (folder.Namespace sub nsid) = holds_if_rows nsid _ _ (λ s _ n _.
+    holds_last _ _ _ _ (λ _ i h e. e))
 k_rmdir t (folder.Port id) = holds_if_port _ _ (λ p _.
     holds_row _ _ _ _ (λ _. holds_last _ _ _ _ (λ _ i h e. e)))
 k_rmdir t (folder.AnaGroup id group) = holds_if_port _ _ (λ p _.
@@ -126,9 +126,9 @@ k_subsystem t sub a value = refuses _
 k_identifier : (t : Configuration) (sub : List ℕ) (nsid : ℕ) (which : Identifier) (value : List ℕ)
     → KeepsBy t (set_identifier t sub nsid which value)
 unfolding set_identifier
-k_identifier t sub nsid which value = holds_if_subsystem _ _ (λ s _. holds_if_namespace _ _
-    (λ n _. holds_end _ _ _ (λ _. holds_parsed (parsed value) _ (λ bytes.
-    holds_unless _ t _ _ (same t) (λ _ i h e. e)))))
+k_identifier t sub nsid which value = holds_if_rows nsid _ _ (λ s _ n _.
+    holds_end _ _ _ (λ _. holds_parsed (parsed value) _ (λ bytes.
+    holds_unless _ t _ _ (same t) (λ _ i h e. e))))
 
 k_group : (t : Configuration) (sub : List ℕ) (nsid : ℕ) (s : SubsystemRow) (n : NamespaceRow)
     (group : Option ℕ) → KeepsBy t (put_group_of t sub nsid s n group)
@@ -166,23 +166,23 @@ k_enabled t s n nsid (Some path) is off named free i h e =
 k_enable : (t : Configuration) (sub : List ℕ) (nsid : ℕ) (value : List ℕ)
     → KeepsBy t (set_enable t sub nsid value)
 unfolding set_enable
-k_enable t sub nsid value = holds_if_subsystem _ _ (λ s _. holds_if_namespace _ _ (λ n _.
+k_enable t sub nsid value = holds_if_rows nsid _ _ (λ s _ n _.
     holds_either _ _ _
     (holds_unless _ t _ _ (same t) (λ _ i h e. e))
     (holds_row _ _ _ _ (λ _. holds_row _ _ _ _ (λ _. holds_row _ _ _ _ (λ named.
     holds_end _ _ _ (λ free. holds_unless _ t _ _ (same t)
-    (λ off. k_enabled t s n nsid n.device_path refl off named free))))))))
+    (λ off. k_enabled t s n nsid n.device_path refl off named free)))))))
 
 k_namespace : (t : Configuration) (sub : List ℕ) (nsid : ℕ) (a : Attr) (value : List ℕ)
     → KeepsBy t (set_of_namespace t sub nsid a value)
 unfolding set_device_path set_ana_grpid
-k_namespace t sub nsid attr.DevicePath value = holds_if_subsystem _ _ (λ s _.
-    holds_if_namespace _ _ (λ n _. holds_row _ _ _ _ (λ _. holds_end _ _ _ (λ _.
-    holds_unless _ t _ _ (same t) (λ _ i h e. e)))))
+k_namespace t sub nsid attr.DevicePath value = holds_if_rows nsid _ _ (λ s _ n _.
+    holds_row _ _ _ _ (λ _. holds_end _ _ _ (λ _.
+    holds_unless _ t _ _ (same t) (λ _ i h e. e))))
 k_namespace t sub nsid attr.DeviceUuid value = k_identifier t sub nsid Uuid value
 k_namespace t sub nsid attr.DeviceNguid value = k_identifier t sub nsid Nguid value
-k_namespace t sub nsid attr.AnaGrpid value = holds_if_subsystem _ _ (λ s _.
-    holds_if_namespace _ _ (λ n _. k_group t sub nsid s n (group_named value)))
+k_namespace t sub nsid attr.AnaGrpid value = holds_if_rows nsid _ _ (λ s _ n _.
+    k_group t sub nsid s n (group_named value))
 k_namespace t sub nsid attr.Enable value = k_enable t sub nsid value
 k_namespace t sub nsid a value = refuses _
 

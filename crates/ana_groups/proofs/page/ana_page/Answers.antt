@@ -1,9 +1,9 @@
-use Rattle.std.proofs.Common.{◌≡◌, ◌+◌, ◌++◌, ◌∙◌, sym, ap, length, arith, refl, ℕ, List}
+use Rattle.std.proofs.Common.{◌≡◌, ◌+◌, ◌++◌, ◌∙◌, length, arith, refl}
 use Rattle.sqe_cqe.specs.Answers.{view_of}
-use Rattle.look_pages.specs.Pages.{Emits, zeros, window}
+use Rattle.look_pages.specs.Pages.{Emits, zeros}
 use Rattle.look_pages.proofs.Parts.{emits_both, written}
 use Rattle.ana_groups.specs.AnaPage.{reported, groups_bytes, header_bytes, ana_bytes}
-use Rattle.ana_groups.proofs.Members.{length-header}
+use Rattle.ana_groups.proofs.Reported.{length-header}
 use Rattle.ana_groups.proofs.page.ana_page.Goals as goal
 
 pub returns-clause-page : goal.returns-clause-page
@@ -14,7 +14,7 @@ returns-clause-page g c =
     let head = header_bytes v.ana_count (length (reported v)) in
     let rest = groups_bytes v c.args.rgo (reported v) in
     let count : c.ana_count-changes.result ≡ v.ana_count = c.ana_count-changes.ensures.value in
-    let behind2 = c.count_members-counts.ensures.behind ∙ c.ana_count-changes.ensures.behind in
+    let behind2 = c.find_members-members.ensures.behind ∙ c.ana_count-changes.ensures.behind in
     let groups : c.count_groups-groups.result ≡ length (reported v) = rw (← behind2) c.count_groups-groups.ensures.value in
     let same : c.header.result ≡ head = c.header.ensures ∙ rw (count, groups) refl in
     let behind = c.count_groups-groups.ensures.behind ∙ behind2 in

@@ -1,8 +1,8 @@
-use Rattle.std.proofs.Common.{◌≡◌, ◌+◌, ◌∙◌, sym, ap, length, arith, refl, true, false, ℕ}
+use Rattle.std.proofs.Common.{◌≡◌, ◌+◌, ◌∙◌, sym, ap, length, arith, ℕ}
 use Rattle.sqe_cqe.specs.Answers.{view_of}
 use Rattle.look_pages.specs.Pages.{those}
 use Rattle.look_pages.proofs.Walks.{length-those, length-those_yes, length-those_no}
-use Rattle.ana_groups.specs.declared.counts.TheConstants.{GROUPS}
+use Rattle.ana_groups.specs.declared.members.TheConstants.{GROUPS}
 use Rattle.ana_groups.specs.AnaPage.{is_reported, reported}
 use Rattle.ana_groups.proofs.page.count_groups.Goals as goal
 use Rattle.ana_groups.proofs.page.count_groups.Goals.{then-in_page, else-in_page}

@@ -1,11 +1,11 @@
-use Rattle.std.proofs.Common.{◌≡◌, ◌+◌, ◌++◌, ◌∙◌, sym, ap, length, length-append, arith, refl, ℕ}
+use Rattle.std.proofs.Common.{◌≡◌, ◌+◌, ◌∙◌, length, length-append, arith, refl}
 use Rattle.sqe_cqe.specs.Answers.{view_of}
 use Rattle.look_pages.specs.Pages.{those, if_one, Emits}
 use Rattle.look_pages.proofs.Walks.{those-next}
 use Rattle.look_pages.proofs.Parts.{emits_none, emits_both}
-use Rattle.ana_groups.specs.declared.counts.TheConstants.{GROUPS}
-use Rattle.ana_groups.specs.AnaPage.{is_reported, reported, groups_bytes}
-use Rattle.ana_groups.proofs.Members.{groups_none, groups_append, reported-at}
+use Rattle.ana_groups.specs.declared.members.TheConstants.{GROUPS}
+use Rattle.ana_groups.specs.AnaPage.{is_reported, groups_bytes}
+use Rattle.ana_groups.proofs.Reported.{groups_none, groups_append, reported-at}
 use Rattle.ana_groups.proofs.page.emit_groups.Goals as goal
 
 pub loop-i-init : goal.loop-i-init

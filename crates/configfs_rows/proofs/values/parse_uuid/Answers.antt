@@ -5,4 +5,5 @@ use Rattle.configfs_rows.proofs.Texts.{none_of_no}
 use Rattle.configfs_rows.proofs.values.parse_uuid.Goals as goal
 
 pub returns-in-Err : goal.returns-in-Err
-returns-in-Err c = sym (none_of_no (parsed c.args.value.now) (λ h. clash false (c.in-Err.ensures.ok.1 h) refl))
+returns-in-Err c = sym (none_of_no (parsed c.args.value.now)
+    (λ h. clash false (c.in-Err.ensures.ok.1 h) refl))

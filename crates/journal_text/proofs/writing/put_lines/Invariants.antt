@@ -7,7 +7,8 @@ use Rattle.journal_text.proofs.writing.put_lines.Given as goal
 
 abbrev pub invariant-loop-line : goal.invariant-loop-line
 invariant-loop-line l = record {
-  told : l.to.bytes ++ flat_map line_text (drop l.line-index l.lines) ≡ l.fn.to.bytes ++ flat_map line_text l.lines;
+  told : l.to.bytes ++ flat_map line_text (drop l.line-index l.lines) ≡ l.fn.to.bytes ++ flat_map
+      line_text l.lines;
   room : HasRoom l.to (lines_room (drop l.line-index l.lines));
   same_room : l.to.room ≡ l.fn.to.room;
 }

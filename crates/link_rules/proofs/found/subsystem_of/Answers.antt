@@ -8,5 +8,6 @@ use Rattle.link_rules.proofs.found.subsystem_of.Goals as goal
 
 pub returns : goal.returns
 returns c = subsystem_of c.args.t.now c.args.sub.now c.get.result
-    (c.get.ensures ∙ ap (λ (m : FinMap name_order SubsystemRow). map.get m c.args.sub.now) c.subsystems.ensures)
+    (c.get.ensures ∙ ap (λ (m : FinMap name_order SubsystemRow). map.get m c.args.sub.now)
+    c.subsystems.ensures)
     c.certify.ensures c.subsystem_positions.ensures

@@ -13,5 +13,6 @@ returns-clause-tells c =
     let new = on_taken _ _ c.set_link.ensures.ok (c.set_link.ensures.taken refl) in
     let was = sym c.contains-is_linked.ensures ∙ c.if-not-is_linked.false in
     linked_told c.args.t.now c.set_link.new.self c.args.id c.args.sub.now false c.in-Some.port.now
-    c.in-Some-subsystem_of.row.now c.of.result c.in-Some.ensures c.in-Some-subsystem_of.ensures was new
+    c.in-Some-subsystem_of.row.now c.of.result c.in-Some.ensures c.in-Some-subsystem_of.ensures was
+    new
     c.of.ensures

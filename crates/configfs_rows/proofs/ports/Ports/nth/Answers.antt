@@ -1,37 +1,5 @@
-use Rattle.std.proofs.Common.{◌≡◌, ◌≤◌, length, sym, ◌∙◌, arith}
-use Rattle.std.proofs.lemmas.Option.{slice_get_past}
-use Rattle.std.specs.BTreeMap as tree
-use Rattle.std.specs.Map.Iter.{deref}
-use Rattle.std.proofs.lemmas.Map.Iter.{iter_turn, iter_end}
-use Rattle.std.specs.Cmp.{nat_cmp_total}
-use Rattle.configfs_rows.proofs.Seen.{seen_values}
+use Rattle.configfs_rows.proofs.Scans.{nth_shown}
 use Rattle.configfs_rows.proofs.ports.Ports.nth.Goals as goal
 
-pub returns-then-left-eq0 : goal.returns-then-left-eq0
-returns-then-left-eq0 c =
-    let turn = iter_turn deref (tree.values c.self.inside.rows) c.loop-row.yielded
-    c.into_iter-row-iterator.result c.loop-row.row-iterator c.next.new.self c.next.result
-    (c.into_iter-row-iterator.ensures.into_iter_gives
-    ∙ c.values-row-items.ensures.rest) c.loop-row.yielded_by c.in-Some.row c.in-Some.is
-    c.next.ensures.steps in
-    let at : length c.loop-row.yielded ≡ c.args.n = omega arith in
-    rw (
-      ← c.self.view_is,
-      seen_values nat_cmp_total c.self.inside.rows
-          c.values-row-items.ensures.ordered,
-      ← at,
-    ) (sym turn.1)
-
 pub returns : goal.returns
-returns c =
-    let stop = iter_end deref (tree.values c.self.inside.rows) c.loop-row.yielded
-    c.into_iter-row-iterator.result c.loop-row.row-iterator c.next.new.self c.next.result
-    (c.into_iter-row-iterator.ensures.into_iter_gives
-    ∙ c.values-row-items.ensures.rest) c.loop-row.yielded_by c.in-None.is c.next.ensures.steps
-    in
-    let past : length (tree.values c.self.inside.rows) ≤ c.args.n = omega (arith, stop.1) in
-    rw (
-      ← c.self.view_is,
-      seen_values nat_cmp_total c.self.inside.rows
-          c.values-row-items.ensures.ordered,
-    ) (sym (slice_get_past _ _ past))
+returns c = rw (← c.iter.ensures) (nth_shown _ _ _ _ c.nth.ensures.ran)

@@ -1,4 +1,4 @@
-use Rattle.std.proofs.Common.{◌≡◌, false, ap, ◌∙◌, IsTrue}
+use Rattle.std.proofs.Common.{ap, ◌∙◌}
 use Rattle.std.specs.FinMap as map
 use Rattle.configfs_tree.specs.Links.{with_allowed, subsystem_row, allows_any}
 use Rattle.configfs_tree.specs.declared.configuration.Configuration.{Configuration}

@@ -1,5 +1,5 @@
 use Rattle.std.proofs.Common.{ap, ◌∙◌}
-use Rattle.configfs_tree.specs.Links.{with_link, subsystem_row, port_row, is_loop}
+use Rattle.configfs_tree.specs.Links.{with_link, port_row, is_loop}
 use Rattle.configfs_tree.specs.declared.configuration.Configuration.{Configuration}
 use Rattle.configfs_tree.proofs.Stands.{either_way, link_stands}
 use Rattle.configfs_tree.proofs.tree.Tree.set_link.Goals as goal

@@ -1,7 +1,0 @@
-use Rattle.std.proofs.Common.{◌≡◌, ◌==◌, false, map}
-use Rattle.std.specs.List.{list_any}
-use Rattle.std.specs.Map.Iter.{deref}
-use Rattle.configfs_rows.proofs.ports.Ports.has_place.Given as goal
-
-abbrev pub invariant-loop-row : goal.invariant-loop-row
-invariant-loop-row l = list_any (λ p. p.at == l.at) (map deref l.yielded) ≡ false
