@@ -31,7 +31,8 @@ use Rattle.link_rules.specs.declared.edits.LinkEdit.{LinkEdit}
 use Rattle.link_rules.specs.declared.edits.LinkEdit.TheVariants as link
 use Rattle.link_rules.specs.Table.{allow_host, disallow_host, link_subsystem, unlink_subsystem, link_outcome}
 use Rattle.configfs_tree.specs.Asked.{path_names_disk, path_is_held}
-use Rattle.configfs_tree.specs.Drained.{freed_path, freed_by, freed_in, drained}
+use Rattle.configfs_tree.specs.Drained.{freed_path, freed_by, drained}
+use Rattle.configfs_tree.specs.NamespaceRows.{paired, rows_in}
 use Rattle.configfs_tree.specs.Outcome.{Outcome, Refuses, Accepts}
 use Rattle.configfs_tree.specs.Phases.{phase_at}
 use Rattle.configfs_tree.specs.Standing.{IsStanding}
@@ -302,7 +303,7 @@ space_frees : (t : Configuration) (held : List Command) (sub : List ℕ) (nsid :
     (s : SubsystemRow) (n : Option NamespaceRow) (i : ℕ) (h : Holder) → IsStanding t
     → map.get t.settings.subsystems sub ≡ Some s → map.get s.namespaces nsid ≡ n
     → none_on held (disk_of_space n) ≡ true → list_any (is_on i) held ≡ true
-    → holder_at t i ≡ Some h → holder_at (freed_by t n) i ≡ Some h
+    → holder_at t i ≡ Some h → holder_at (freed_by t (paired s n)) i ≡ Some h
 space_frees t held sub nsid s None i h st f g free busy e = e
 space_frees t held sub nsid s (Some n) i h st f g free busy e =
     path_frees t held n.device_path n.disk i h
@@ -312,7 +313,7 @@ sub_frees : (t : Configuration) (held : List Command) (sub : List ℕ) (nsid : �
     (s : Option SubsystemRow) (i : ℕ) (h : Holder) → IsStanding t
     → map.get t.settings.subsystems sub ≡ s
     → none_on held (disk_of_space (space_in nsid s)) ≡ true → list_any (is_on i) held ≡ true
-    → holder_at t i ≡ Some h → holder_at (freed_in t nsid s) i ≡ Some h
+    → holder_at t i ≡ Some h → holder_at (freed_by t (rows_in nsid s)) i ≡ Some h
 sub_frees t held sub nsid None i h st f free busy e = e
 sub_frees t held sub nsid (Some s) i h st f free busy e =
     space_frees t held sub nsid s (map.get s.namespaces nsid) i h st f refl free busy e

@@ -13,7 +13,8 @@ use Rattle.configfs_tree.specs.declared.edits.Refused.TheVariants as refused
 use Rattle.configfs_rows.specs.declared.namespaces.NamespaceRow.{NamespaceRow}
 use Rattle.configfs_rows.specs.declared.subsystems.SubsystemRow.{SubsystemRow}
 use Rattle.configfs_tree.specs.Gives.{Gives}
-use Rattle.configfs_tree.specs.Drained.{freed_path, freed_by, freed_in, drained}
+use Rattle.configfs_tree.specs.Drained.{freed_path, freed_by, drained}
+use Rattle.configfs_tree.specs.NamespaceRows.{rows_of}
 use Rattle.configfs_tree.specs.Outcome.{Refuses, Accepts}
 use Rattle.configfs_tree.specs.Stays.{is_subsystem_attached, is_port_attached, Stays}
 use Rattle.tree_target.specs.declared.calls.Command.{Command}
@@ -173,19 +174,14 @@ freed_path_settings : (t : Configuration) (q : Option (List ℕ)) → (freed_pat
 freed_path_settings t None = refl
 freed_path_settings t (Some path) = refl
 
-freed_by_settings : (t : Configuration) (n : Option NamespaceRow) → (freed_by t n).settings
-    ≡ t.settings
+freed_by_settings : (t : Configuration) (rows : Option (SubsystemRow × NamespaceRow))
+    → (freed_by t rows).settings ≡ t.settings
 freed_by_settings t None = refl
-freed_by_settings t (Some n) = freed_path_settings t n.device_path
-
-freed_in_settings : (t : Configuration) (nsid : ℕ) (s : Option SubsystemRow)
-    → (freed_in t nsid s).settings ≡ t.settings
-freed_in_settings t nsid None = refl
-freed_in_settings t nsid (Some s) = freed_by_settings t _
+freed_by_settings t (Some rows) = freed_path_settings t rows.1.device_path
 
 pub drained_settings : (t : Configuration) (sub : List ℕ) (nsid : ℕ)
     → (drained t sub nsid).settings ≡ t.settings
-drained_settings t sub nsid = freed_in_settings t nsid _
+drained_settings t sub nsid = freed_by_settings t (rows_of t.settings sub nsid)
 
 same_settings : (t u : Configuration) → u.settings ≡ t.settings → Stays t u
 same_settings t u e = record {
