@@ -25,7 +25,7 @@ use Rattle.configfs_tree.specs.declared.configuration.Attached.{Attached}
 use Rattle.configfs_tree.specs.declared.configuration.Configuration.{Configuration}
 use Rattle.configfs_rows.proofs.Gets.{some_same, none_some, cases_key, get-insert_at, get-insert_beside, get-remove_at, get-remove_beside, get-update_at, get-update_beside, update_none, was_at}
 use Rattle.configfs_rows.proofs.Placing.{places_updated}
-use Rattle.configfs_tree.proofs.Tests.{left_false, none_below}
+use Rattle.configfs_tree.proofs.Decided.{left_false, none_below}
 use Rattle.configfs_tree.proofs.Held.{here, cases_name, moved_same, altered_kept, altered_free}
 
 abbrev pub Rows : Type 0

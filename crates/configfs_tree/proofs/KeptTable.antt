@@ -27,7 +27,7 @@ use Rattle.configfs_rows.specs.declared.ports.PortRow.{PortRow}
 use Rattle.configfs_tree.specs.declared.configuration.Configuration.{Configuration}
 use Rattle.configfs_rows.proofs.Gets.{some_same, none_some, cases_key, get-insert_at, get-insert_beside, get-remove_at, get-remove_beside, get-update_at, get-update_beside}
 use Rattle.configfs_tree.proofs.Kept.{names_same, no_namespaces, placed_made, placed_removed, placed_others, placed_here, placed_was, subsystems_changed, changed_beside, count_changed, subsystem_put, namespace_put, namespace_free, port_put, one_put, one_removed}
-use Rattle.configfs_tree.proofs.Tests.{left_false, right_false, none_of_test, room_of}
+use Rattle.configfs_tree.proofs.Decided.{left_false, right_false, none_of_test, room_of}
 use Rattle.configfs_tree.proofs.Holds.{Holds, refuses, holds_row, holds_end, holds_last, holds_either, holds_unless, holds_if_subsystem, holds_if_rows, holds_if_port, holds_if_group, holds_parsed}
 use Rattle.configfs_rows.proofs.Placing.{places_inserted, places_removed, places_updated, place_is_free, stands_at_none}
 use Rattle.configfs_tree.proofs.Held.{here, moved_same, enabled_kept, drained_kept, holder_holds, holding}

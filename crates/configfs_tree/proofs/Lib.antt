@@ -9,4 +9,4 @@ pub mod Stands
 pub mod StaysTable
 pub mod Tells
 pub mod TellsTable
-pub mod Tests
+pub mod Decided

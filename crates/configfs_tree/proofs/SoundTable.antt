@@ -54,7 +54,7 @@ use Rattle.configfs_rows.proofs.Texts.{right_true, group_in_range}
 use Rattle.configfs_rows.proofs.Each.{each_inserted, each_removed, each_updated, had_inserted, had_removed, had_updated, has_inserted, has_removed, none_there, len_inserted, len_removed, none_passing}
 use Rattle.configfs_tree.proofs.Kept.{Rows, names_same}
 use Rattle.configfs_tree.proofs.Slots.{Ports}
-use Rattle.configfs_tree.proofs.Tests.{left_false, both, not_no, room_of, low_of, high_of, filled_of}
+use Rattle.configfs_tree.proofs.Decided.{left_false, both, not_no, room_of, low_of, high_of, filled_of}
 use Rattle.configfs_tree.specs.declared.configuration.Attached.{Attached}
 use Rattle.configfs_tree.proofs.Holds.{Holds, refuses, holds_row, holds_end, holds_last, holds_either, holds_unless, holds_if_subsystem, holds_if_rows, holds_if_port, holds_if_group, holds_parsed}
 

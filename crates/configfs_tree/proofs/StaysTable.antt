@@ -42,7 +42,7 @@ use Rattle.configfs_tree.specs.declared.edits.FolderEdit.TheVariants as edit
 use Rattle.configfs_tree.proofs.Kept.{Rows, names_same}
 use Rattle.configfs_tree.proofs.Slots.{Ports}
 use Rattle.configfs_tree.specs.Sound.{Hosts}
-use Rattle.configfs_tree.proofs.Tests.{none_of_test, right_false}
+use Rattle.configfs_tree.proofs.Decided.{none_of_test, right_false}
 use Rattle.configfs_tree.proofs.Holds.{Holds, refuses, holds_row, holds_end, holds_last, holds_either, holds_unless, holds_if_subsystem, holds_if_rows, holds_if_port, holds_if_group, holds_parsed}
 use Rattle.configfs_tree.specs.Stays.{is_subsystem_attached, is_port_attached, SubsystemAt, PortAt, Stays}
 use Rattle.configfs_rows.proofs.Each.{RowAt, StaysAt, stays_inserted, stays_removed, stays_updated}

@@ -58,7 +58,7 @@ use Rattle.configfs_rows.specs.Values.{has_path, same_bool, same_state}
 use Rattle.configfs_tree.specs.declared.edits.Touched.TheVariants as touches
 use Rattle.configfs_rows.specs.declared.namespaces.NamespacePut.{NamespacePut}
 use Rattle.configfs_tree.proofs.Kept.{placed_attr}
-use Rattle.configfs_tree.proofs.Tests.{left_false, none_of_test, right_false}
+use Rattle.configfs_tree.proofs.Decided.{left_false, none_of_test, right_false}
 use Rattle.configfs_tree.proofs.Slots.{slot_put, slot_made, slot_gone, put_ports, made_ports, gone_ports}
 use Rattle.configfs_tree.proofs.Tells.{insert_differs, insert_other, remove_differs, update_differs, tells_nothing, hosts_tell, rows_tell, slot_tells, turn_tells, move_tells, ports_tell, port_tells}
 
