@@ -21,13 +21,14 @@ mod values;
 pub use disks::{DiskRow, Disks, Holder};
 pub use law::{group_names_again, lowest_is_free};
 pub use limits::{
-    MAX_ANA_GROUPS, MAX_CONTROLLERS, MAX_DISKS, MAX_HOSTS, MAX_NSID, MAX_PORTS, MAX_SUBSYSTEMS,
-    MODEL_LEN, NQN_LEN, PATH_LEN, SERIAL_LEN, TRADDR_LEN, TRSVCID_LEN,
+    MAX_ANA_GROUPS, MAX_CONTROLLERS, MAX_DISKS, MAX_HOSTS, MAX_PORTS, MAX_SUBSYSTEMS, MODEL_LEN,
+    NQN_LEN, PATH_LEN, SERIAL_LEN, TRADDR_LEN, TRSVCID_LEN,
 };
 pub use names::Names;
 pub use namespaces::{Identifier, NamespacePut, NamespaceRow, Namespaces, Phase};
 pub use nqn::Nqn;
 pub use ports::{Address, Groups, PortRow, Ports};
+pub use sqe_cqe::MAX_NSID;
 pub use subsystems::{SubsystemPut, SubsystemRow, Subsystems};
 pub use values::{
     group_number, has_path, is_adrfam, is_treq, is_trtype, may_be_path, may_be_text, parse_uuid,

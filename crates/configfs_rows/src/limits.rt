@@ -7,9 +7,6 @@ pub const MAX_SUBSYSTEMS: usize = 16;
 /// The most ports that a tree holds. Positions of ports are below it.
 pub const MAX_PORTS: usize = 8;
 
-/// The highest namespace identifier; the lowest is 1.
-pub const MAX_NSID: u32 = 2048;
-
 /// The highest ANA group identifier; the lowest is 1. Pages that list groups use the same limit.
 pub const MAX_ANA_GROUPS: u32 = 128;
 

@@ -13,7 +13,8 @@ use Rattle.uuid.specs.Text.{parsed}
 use Rattle.sqe_cqe.specs.Anas.{ana_named}
 use Rattle.sqe_cqe.specs.declared.rows.Ana.{Ana}
 use Rattle.sqe_cqe.specs.declared.rows.Ana.TheVariants as state
-use Rattle.configfs_rows.specs.declared.limits.TheConstants.{MAX_HOSTS, MAX_SUBSYSTEMS, MAX_PORTS, MAX_NSID, MAX_ANA_GROUPS, SERIAL_LEN, MODEL_LEN, TRADDR_LEN, TRSVCID_LEN}
+use Rattle.configfs_rows.specs.declared.limits.TheConstants.{MAX_HOSTS, MAX_SUBSYSTEMS, MAX_PORTS, MAX_ANA_GROUPS, SERIAL_LEN, MODEL_LEN, TRADDR_LEN, TRSVCID_LEN}
+use Rattle.sqe_cqe.specs.declared.rows.TheConstants.{MAX_NSID}
 use Rattle.configfs_rows.specs.Nqns.{name_order, is_nqn, discovery_nqn}
 use Rattle.configfs_rows.specs.Maps.{update_at}
 use Rattle.configfs_rows.specs.Rows.{put_in, fresh_namespace}

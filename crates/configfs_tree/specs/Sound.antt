@@ -8,7 +8,8 @@ use Rattle.configfs_rows.specs.Nqns.{name_order, is_nqn, discovery_nqn}
 use Rattle.configfs_rows.specs.Holders.{are_apart, disk_number, paths_of}
 use Rattle.configfs_rows.specs.Values.{is_text, is_short, is_path, is_trtype, is_adrfam, is_treq}
 use Rattle.configfs_rows.specs.Ports.{address_of}
-use Rattle.configfs_rows.specs.declared.limits.TheConstants.{MAX_HOSTS, MAX_DISKS, MAX_NSID, MAX_ANA_GROUPS, SERIAL_LEN, MODEL_LEN, TRADDR_LEN, TRSVCID_LEN}
+use Rattle.configfs_rows.specs.declared.limits.TheConstants.{MAX_HOSTS, MAX_DISKS, MAX_ANA_GROUPS, SERIAL_LEN, MODEL_LEN, TRADDR_LEN, TRSVCID_LEN}
+use Rattle.sqe_cqe.specs.declared.rows.TheConstants.{MAX_NSID}
 use Rattle.configfs_rows.specs.declared.namespaces.NamespaceRow.{NamespaceRow}
 use Rattle.configfs_rows.specs.declared.subsystems.SubsystemRow.{SubsystemRow}
 use Rattle.configfs_rows.specs.declared.ports.PortRow.{PortRow}

@@ -1,5 +1,5 @@
 -- What a configuration of plain arrays answers.
-use Rattle.std.specs.Prelude.{ℕ, zero, suc, ◌==◌, ◌||◌, not, nat_lt, Bool, if◌then◌else◌, List, slice_index}
+use Rattle.std.specs.Prelude.{ℕ, zero, suc, ◌==◌, ◌&&◌, not, nat_lt, false, if◌then◌else◌, List, slice_index}
 use Rattle.sqe_cqe.specs.declared.rows.Seen.{Seen}
 use Rattle.sqe_cqe.specs.declared.rows.Seen.TheVariants.{NotConfigured, Off, On}
 use Rattle.sqe_cqe.specs.declared.rows.Ana.{Ana}
@@ -31,18 +31,19 @@ state_of code =
 abbrev pub offered_of : ℕ → ℕ
 offered_of nsids = if nat_lt MAX_NSID nsids then MAX_NSID else nsids
 
+-- what isn't of the world's subsystem or port shows nothing
 abbrev pub world_answers : World → Answers
 world_answers w = record {
   ready = λ c. w.ready;
-  ns = λ s n. seen_of w (number_at w.slots.now n);
-  ana = λ p g. state_of (number_at w.states.now g);
-  group_made = λ p g. not (number_at w.states.now g == 0);
-  ns_stamp = λ s n. number_at w.stamps.now n;
-  ana_stamp = λ s p. w.ana_stamp;
+  ns = λ s n. if s == w.sub then seen_of w (number_at w.slots.now n) else NotConfigured;
+  ana = λ p g. if p == w.port then state_of (number_at w.states.now g) else Inaccessible;
+  group_made = λ p g. if p == w.port then not (number_at w.states.now g == 0) else false;
+  ns_stamp = λ s n. if s == w.sub then number_at w.stamps.now n else 0;
+  ana_stamp = λ s p. if (s == w.sub) && (p == w.port) then w.ana_stamp else 0;
   ana_count = w.ana_count;
   serial = w.serial;
   bars = λ c s n o. 0;
   offers = record { nsids = offered_of w.nsids; oncs = 8; nwpc = 0; rescap = 0 };
   marks = λ s n. 0;
-  group_count = λ p s g. w.ana_count;
+  group_count = λ p s g. if (s == w.sub) && (p == w.port) then w.ana_count else 0;
 }

@@ -1,22 +1,7 @@
-use crate::{World, WorldLook};
+use crate::log_rows::read_log;
+use crate::{World, WorldLook, controller};
 use async_events::{Events, Log, features};
-use sqe_cqe::{Bound, Ctrl, Sqe, read_sqe};
-
-// Controller 1 through its admin queue.
-fn controller() -> Ctrl {
-    Ctrl {
-        bound: Bound {
-            ctrl: 1,
-            qid: 0,
-            sub: 0,
-            port: 0,
-        },
-        since: 0,
-        subnqn: [0; 256],
-        serial: [b' '; 20],
-        model_name: [b' '; 40],
-    }
-}
+use sqe_cqe::{Sqe, read_sqe};
 
 // A namespace notice and an ANA notice, as results of little-endian bytes 02 00 04 00 and 02 03 0c 00.
 const NAMESPACE: u32 = 2 + 4 * 65536;
@@ -56,18 +41,9 @@ fn events_come_as_changes_do(rt: HostRuntime) {
     }
     for (at, (ns, ana, serial, log, event)) in STEPS.iter().enumerate() {
         let stamps = [0, *ns];
-        let world = World {
-            ready: true,
-            slots: &[1, 1],
-            stamps: &stamps,
-            states: &[1],
-            ana_stamp: *ana,
-            ana_count: 0,
-            serial: *serial,
-            nsids: 2048,
-            uuid: [0; 16],
-            nguid: [0; 16],
-        };
+        let mut world = World::new(&[1, 1], &stamps, &[1]);
+        world.ana_stamp = *ana;
+        world.serial = *serial;
         ev.catch_up(&c, &mut WorldLook::new(&world));
         if *log == 4 || *log == 16 {
             ev.read_done(Log::Changed, *serial);
@@ -110,6 +86,15 @@ const FEATURES: &[(u8, u32, u32, u32, u16, u32)] = &[
     (0x0a, 0x0b, 0, 0, 0, 0x0900),
     (0x09, 0x0f, 120_000, 0, 0, 0),
     (0x0a, 0x8000_000f, 0, 0, 0, 120_000),
+    (0x09, 0x0f, 90_000, 4, 0x801e, 0),
+    (0x0a, 0x0f, 0, 0, 0, 120_000),
+    (0x09, 0x8000_000f, 90_000, 0, 0, 0),
+    (0x0a, 0x0f, 0, 0, 0, 90_000),
+    (0x09, 0x07, 0x0000_ffff, 4, 0x801e, 0),
+    (0x0a, 0x07, 0xffff_ffff, 0, 0, 0x007f_007f),
+    (0x09, 0x0b, 0xffff_ffff, 0, 0x8004, 0),
+    (0x09, 0x0b, 0x0b00, 0, 0x8004, 0),
+    (0x0a, 0x0b, 0, 0, 0, 0x0900),
     (0x09, 0x06, 1, 0, 0x8004, 0),
     (0x0a, 0x06, 0, 0, 0x8004, 0),
     (0x0a, 0x06, 0, 1, 0x801e, 0),
@@ -147,19 +132,53 @@ fn a_kind_that_is_off_is_not_raised(rt: HostRuntime) {
     ] {
         let _set = features(&mut ev, &entry(0x09, 0x0b, bits, 0));
         let stamps = [serial];
-        let world = World {
-            ready: true,
-            slots: &[1],
-            stamps: &stamps,
-            states: &[1],
-            ana_stamp: 0,
-            ana_count: 0,
-            serial,
-            nsids: 1,
-            uuid: [0; 16],
-            nguid: [0; 16],
-        };
+        let mut world = World::new(&[1], &stamps, &[1]);
+        world.serial = serial;
         ev.catch_up(&c, &mut WorldLook::new(&world));
         assert_eq!(rt; ev.take(), event, "bits {bits} at {serial}");
     }
+}
+
+// Serials as above; dword 10 of a log read of four bytes (0 for none); the event that a poll then
+// gives.
+const LOG_STEPS: &[(u32, u32, u32, u32, Option<(u16, u32)>)] = &[
+    (0, 0, 0, 0x0004, None),
+    (1, 0, 1, 0, Some((13, NAMESPACE))),
+    // a read that retains unmasks nothing, nor does one of the other log
+    (1, 0, 1, 0x8004, None),
+    (2, 0, 2, 0, None),
+    (3, 0, 3, 0x000c, None),
+    (4, 0, 4, 0, None),
+    // what changed before the read is no news after it
+    (4, 0, 4, 0x0004, None),
+    (5, 0, 5, 0, Some((12, NAMESPACE))),
+    (5, 0, 5, 0x0004, None),
+    // pending before the read, it stays so
+    (6, 0, 6, 0x0004, Some((11, NAMESPACE))),
+    // the read left the kind unmasked
+    (7, 8, 8, 0, Some((10, NAMESPACE))),
+];
+
+#[test]
+fn log_reads_unmask_their_kind(rt: HostRuntime) {
+    let c = controller();
+    let mut ev = Events::new(0, 0);
+    for cid in [10, 11, 12, 13] {
+        assert_eq!(rt; ev.request(cid), 0, "request {cid}");
+    }
+    for (at, (ns, ana, serial, cdw10, event)) in LOG_STEPS.iter().enumerate() {
+        let stamps = [0, *ns];
+        let mut world = World::new(&[1, 1], &stamps, &[1]);
+        world.ana_stamp = *ana;
+        world.serial = *serial;
+        let mut look = WorldLook::new(&world);
+        if *cdw10 != 0 {
+            assert_eq!(rt; read_log(&c, &mut ev, *cdw10, 0, &mut look, &mut [0; 4]), 0);
+        }
+        ev.catch_up(&c, &mut look);
+        assert_eq!(rt; ev.take(), *event, "step {at}");
+    }
+    // the ANA change of serial 8 is still to be told
+    assert_eq!(rt; ev.request(20), 0);
+    assert_eq!(rt; ev.take(), Some((20, ANA)));
 }

@@ -3,9 +3,17 @@
 #![tactic(auto)]
 
 #[cfg(test)]
+mod ana_rows;
+#[cfg(test)]
+mod changed_rows;
+#[cfg(test)]
 mod event_rows;
+mod expected;
 #[cfg(test)]
 mod list_rows;
+#[cfg(test)]
+mod log_rows;
 mod world;
 
-pub use world::{NONE, OFF, World, WorldLook};
+pub use expected::{Fields, first_uncounted, first_wrong};
+pub use world::{NONE, OFF, PORT, SUBSYSTEM, World, WorldLook, controller};

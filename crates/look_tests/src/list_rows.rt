@@ -1,4 +1,4 @@
-use crate::{NONE, OFF, World, WorldLook};
+use crate::{NONE, OFF, PORT, SUBSYSTEM, World, WorldLook, first_uncounted};
 use look_pages::{
     Choice, clear, count_chosen, emit, emit_word, list_part, put, put_byte, put_half, put_long,
     put_word,
@@ -9,8 +9,8 @@ use std::test::Fail;
 const QUEUE: Bound = Bound {
     ctrl: 1,
     qid: 0,
-    sub: 0,
-    port: 0,
+    sub: SUBSYSTEM,
+    port: PORT,
 };
 
 // NSIDs 1, 3 and 7 are enabled, in groups 1, 2 and 1; NSID 2 is off; 5 isn't configured any more.
@@ -18,8 +18,6 @@ const SLOTS: [u8; 7] = [1, OFF, 2, NONE, NONE, NONE, 1];
 
 // NSIDs 2, 3, 5 and 7 changed.
 const STAMPS: [u32; 7] = [0, 4, 5, 0, 6, 0, 9];
-
-const NO_BYTES: [u8; 16] = [0; 16];
 
 // What is listed, from which offset on, and the first twelve bytes of what is then seen.
 const ROWS: &[(Choice, u64, u32, [u8; 12])] = &[
@@ -111,18 +109,7 @@ const ROWS: &[(Choice, u64, u32, [u8; 12])] = &[
 
 #[test]
 fn lists_have_the_nsids_that_are_asked_for(rt: HostRuntime) {
-    let world = World {
-        ready: true,
-        slots: &SLOTS,
-        stamps: &STAMPS,
-        states: &[1, 2],
-        ana_stamp: 0,
-        ana_count: 0,
-        serial: 9,
-        nsids: 2048,
-        uuid: NO_BYTES,
-        nguid: NO_BYTES,
-    };
+    let world = World::new(&SLOTS, &STAMPS, &[1, 2]);
     let mut look = WorldLook::new(&world);
     let mut to = [0xee; 12];
     for (choice, offset, count, bytes) in ROWS.iter() {
@@ -136,52 +123,28 @@ fn lists_have_the_nsids_that_are_asked_for(rt: HostRuntime) {
     }
 }
 
-// Whether a page shows the NSIDs 1, 2 .. up to a number from its start on, and zeros after them.
-fn counts_up(page: &[u8], last: usize) -> bool {
-    for (at, byte) in page.iter().enumerate() {
-        let word = at / 4 + 1;
-        let want = if word > last || at % 4 > 1 {
-            0
-        } else if at % 4 == 0 {
-            word % 256
-        } else {
-            word / 256 % 256
-        };
-        if usize::from(*byte) != want {
-            return false;
-        }
-    }
-    true
-}
-
 #[test]
 fn a_list_ends_at_1024(rt: HostRuntime) -> Result<(), Fail> {
     let mut page = [0xee; 4096];
     for nsids in [1023, 1024, 1025, 2048] {
         let slots = [128; 2048];
-        let world = World {
-            ready: true,
-            slots: &slots,
-            stamps: &[],
-            states: &[1],
-            ana_stamp: 0,
-            ana_count: 0,
-            serial: 0,
-            nsids,
-            uuid: NO_BYTES,
-            nguid: NO_BYTES,
-        };
+        let mut world = World::new(&slots, &[], &[1]);
+        world.nsids = nsids;
         let mut look = WorldLook::new(&world);
         list_part(Choice::Enabled(0), &QUEUE, 0, &mut look, &mut page);
         if nsids <= 1024 {
-            assert!(rt; counts_up(&page, nsids as usize), "{nsids} NSIDs");
+            assert_eq!(rt;
+                first_uncounted(&page, 1, nsids as usize),
+                None,
+                "{nsids} NSIDs"
+            );
         } else {
             assert_eq!(rt;
                 &page[..4],
                 [0xff, 0xff, 0xff, 0xff].as_slice(),
                 "{nsids} NSIDs"
             );
-            assert!(rt; counts_up(&page[4..], 0), "{nsids} NSIDs");
+            assert_eq!(rt; first_uncounted(&page[4..], 1, 0), None, "{nsids} NSIDs");
         }
     }
     Ok(())

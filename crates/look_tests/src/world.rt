@@ -3,7 +3,7 @@ ghost use Rattle.sqe_cqe.specs.Answers.{HasShape};
 ghost use Rattle.look_tests.specs.Told.{number_at, offered_of, seen_of, state_of};
 ghost use Rattle.sqe_cqe.specs.declared.rows.TheConstants.{MAX_NSID};
 
-use sqe_cqe::{Ana, Look, MAX_NSID, NsRow, Offers, Seen};
+use sqe_cqe::{Ana, Bound, Ctrl, Look, MAX_NSID, NsRow, Offers, Seen};
 
 /// At an NSID where no namespace is configured.
 pub const NONE: u8 = 0;
@@ -11,10 +11,19 @@ pub const NONE: u8 = 0;
 /// At an NSID whose namespace is off. A number from 1 to 128 is the group of an enabled one.
 pub const OFF: u8 = 255;
 
+/// The position of the subsystem of `World::new`.
+pub const SUBSYSTEM: u8 = 6;
+
+/// The position of its port.
+pub const PORT: u8 = 10;
+
 /// A configuration of one subsystem and one port as plain arrays, for tests. Its namespaces have 16
 /// blocks of 512 bytes.
 #[derive(Drop)]
 pub struct World<'a> {
+    /// The subsystem and the port that there are; others show nothing.
+    pub sub: u8,
+    pub port: u8,
     pub ready: bool,
     /// What stands at NSID n, at n - 1; NONE past the end.
     pub slots: &'a [u8],
@@ -28,6 +37,43 @@ pub struct World<'a> {
     pub nsids: u32,
     pub uuid: [u8; 16],
     pub nguid: [u8; 16],
+}
+
+impl<'a> World<'a> {
+    /// With these namespaces, serials of their last changes, and states of groups; all 2,048 NSIDs are
+    /// offered, and everything else is zero.
+    pub fn new(slots: &'a [u8], stamps: &'a [u32], states: &'a [u8]) -> Self {
+        World {
+            sub: SUBSYSTEM,
+            port: PORT,
+            ready: true,
+            slots,
+            stamps,
+            states,
+            ana_stamp: 0,
+            ana_count: 0,
+            serial: 0,
+            nsids: MAX_NSID,
+            uuid: [0; 16],
+            nguid: [0; 16],
+        }
+    }
+}
+
+/// Controller 1 through its admin queue, connected at serial 0.
+pub fn controller() -> Ctrl {
+    Ctrl {
+        bound: Bound {
+            ctrl: 1,
+            qid: 0,
+            sub: SUBSYSTEM,
+            port: PORT,
+        },
+        since: 0,
+        subnqn: [0; 256],
+        serial: [b' '; 20],
+        model_name: [b' '; 40],
+    }
 }
 
 /// A look at such a configuration.
@@ -116,24 +162,36 @@ impl<'a> Look for WorldLook<'a> {
         self.world.ready
     }
 
-    fn ns(&mut self, _sub: u8, nsid: u32) -> Seen {
+    fn ns(&mut self, sub: u8, nsid: u32) -> Seen {
+        if sub != self.world.sub {
+            return Seen::NotConfigured;
+        }
         let slot = byte_at(self.world.slots, nsid);
         seen_at(self.world, slot)
     }
 
-    fn ana(&mut self, _port: u8, group: u32) -> Ana {
+    fn ana(&mut self, port: u8, group: u32) -> Ana {
+        if port != self.world.port {
+            return Ana::Inaccessible;
+        }
         state_named(byte_at(self.world.states, group))
     }
 
-    fn group_made(&mut self, _port: u8, group: u32) -> bool {
-        byte_at(self.world.states, group) != 0
+    fn group_made(&mut self, port: u8, group: u32) -> bool {
+        port == self.world.port && byte_at(self.world.states, group) != 0
     }
 
-    fn ns_stamp(&mut self, _sub: u8, nsid: u32) -> u32 {
+    fn ns_stamp(&mut self, sub: u8, nsid: u32) -> u32 {
+        if sub != self.world.sub {
+            return 0;
+        }
         stamp_at(self.world.stamps, nsid)
     }
 
-    fn ana_stamp(&mut self, _sub: u8, _port: u8) -> u32 {
+    fn ana_stamp(&mut self, sub: u8, port: u8) -> u32 {
+        if sub != self.world.sub || port != self.world.port {
+            return 0;
+        }
         self.world.ana_stamp
     }
 
@@ -162,7 +220,10 @@ impl<'a> Look for WorldLook<'a> {
         0
     }
 
-    fn group_count(&mut self, _port: u8, _sub: u8, _group: u32) -> u64 {
+    fn group_count(&mut self, port: u8, sub: u8, _group: u32) -> u64 {
+        if sub != self.world.sub || port != self.world.port {
+            return 0;
+        }
         self.world.ana_count
     }
 }

@@ -1,10 +1,8 @@
 -- The room that the records of capsules need.
-use Rattle.std.proofs.Common.{◌≡◌, ◌<◌, ◌≤◌, ℕ, ◌+◌, List, [], ◌∷◌, ◌++◌, length, get_or, take, drop, refl, sym, ap, ◌∙◌, arith}
+use Rattle.std.proofs.Common.{◌≡◌, ◌<◌, ◌≤◌, ℕ, ◌+◌, List, [], ◌∷◌, ◌++◌, length, get_or, take, drop, ap, ◌∙◌, arith}
 use Rattle.std.proofs.lemmas.List.{take_more, take-append-drop}
-use Rattle.std.proofs.lemmas.Grind.{common_steps}
 use Rattle.std.specs.List.{sum_by}
 use Rattle.std.proofs.lemmas.List.Sums.{sum_by-append}
-use Rattle.mem_bdev.specs.Texts.{Text, appended, overwritten, with_bytes}
 use Rattle.mem_bdev.specs.declared.limits.TheConstants.{MAX_TRANSFER}
 use Rattle.sqe_cqe.specs.declared.sqe.Sqe.{Sqe}
 use Rattle.sqe_cqe.specs.declared.way.Direction.{Direction}
@@ -37,35 +35,32 @@ both_room e n is small =
 -- the room of one capsule more
 taken_room : (f : Capsule → ℕ) (cs : List Capsule) (i : ℕ) (d : Capsule) → i < length cs
     → sum_by f (take (i + 1) cs) ≡ sum_by f (take i cs) + f (get_or cs i d)
-taken_room f cs i d lt = ap (sum_by f) (take_more cs i d lt) ∙ sum_by-append f (take i cs) (get_or cs i d ∷ []) ∙ omega arith
+taken_room f cs i d lt = ap (sum_by f) (take_more cs i d lt)
+    ∙ sum_by-append f (take i cs) (get_or cs i d ∷ []) ∙ omega arith
 
 -- the room of the capsules before one, and of it, is no more than that of all
 next_room : (f : Capsule → ℕ) (cs : List Capsule) (i : ℕ) (d : Capsule) → i < length cs
     → sum_by f (take i cs) + f (get_or cs i d) ≤ sum_by f cs
 next_room f cs i d lt =
-    let whole : sum_by f (take (i + 1) cs ++ drop (i + 1) cs) ≡ sum_by f cs = ap (sum_by f) (take-append-drop (i + 1) cs) in
+    let whole : sum_by f (take (i + 1) cs ++ drop (i + 1) cs) ≡ sum_by f cs =
+    ap (sum_by f) (take-append-drop (i + 1) cs) in
     let cut = sum_by-append f (take (i + 1) cs) (drop (i + 1) cs) in
     omega (arith, whole, cut, taken_room f cs i d lt)
 
 -- there is room for one capsule more, and after it for the others
-pub room_for_next : (f : Capsule → ℕ) (cs : List Capsule) (i : ℕ) (d : Capsule) (before now room end : ℕ)
+pub room_for_next : (f : Capsule → ℕ) (cs : List Capsule) (i : ℕ) (d : Capsule)
+    (before now room end : ℕ)
     → i < length cs → before + sum_by f cs ≤ end
     → now ≤ before + sum_by f (take i cs) → room ≡ end → now + f (get_or cs i d) ≤ room
-room_for_next f cs i d before now room end lt all so same = omega (arith, all, so, same, next_room f cs i d lt)
+room_for_next f cs i d before now room end lt all so same = omega (
+  arith,
+  all,
+  so,
+  same,
+  next_room f cs i d lt,
+)
 
 pub room_after : (f : Capsule → ℕ) (cs : List Capsule) (i : ℕ) (d : Capsule) (before now new : ℕ)
     → i < length cs → now ≤ before + sum_by f (take i cs)
     → new ≤ now + f (get_or cs i d) → new ≤ before + sum_by f (take (i + 1) cs)
 room_after f cs i d before now new lt so more = omega (arith, so, more, taken_room f cs i d lt)
-
--- a head that was written over the bytes that were kept for it
-head_over : (old zeros bytes head : List ℕ) → length zeros ≡ length head
-    → overwritten ((old ++ zeros) ++ bytes) (length old) head ≡ old ++ (head ++ bytes)
-head_over old zeros bytes head len = grind (arith, common_steps)
-
-pub record_written : (to kept held new : Text) (zeros bytes head : List ℕ) (at : ℕ)
-    → at ≡ length to.bytes → kept ≡ appended to zeros → held ≡ appended kept bytes
-    → new ≡ with_bytes held (overwritten held.bytes at head) → length zeros ≡ length head
-    → new ≡ appended to (head ++ bytes)
-record_written to kept held new zeros bytes head at here a b c len =
-    rw (c, b, a, here) (ap (λ (bs : List ℕ). with_bytes to bs) (head_over to.bytes zeros bytes head len))

@@ -13,5 +13,6 @@ is_plan_name name = is_name name && not (starts_with nat_eq name (codes "-"))
 abbrev pub plan_named : List (String Global) → Option (List ℕ)
 plan_named [] = None
 plan_named (verb ∷ []) = None
-plan_named (verb ∷ name ∷ []) = if bytes_eq (string_bytes verb) (codes "run") && is_plan_name (string_bytes name) then Some (string_bytes name) else None
+plan_named (verb ∷ name ∷ []) = if bytes_eq (string_bytes verb) (codes "run")
+    && is_plan_name (string_bytes name) then Some (string_bytes name) else None
 plan_named (verb ∷ name ∷ word ∷ words) = None

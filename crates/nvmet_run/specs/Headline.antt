@@ -5,7 +5,7 @@ use Rattle.mem_bdev.specs.Blocks.{IsShape}
 use Rattle.mem_bdev.specs.declared.disk.DiskLine.{DiskLine}
 use Rattle.plan_files.specs.declared.items.Plan.{Plan}
 use Rattle.plan_files.specs.declared.items.QueueLine.{QueueLine}
-use Rattle.plan_files.specs.Outside.{HoldsWritten}
+use Rattle.run_outside.specs.Outside.{HoldsWritten}
 use Rattle.plan_files.specs.Plans.{IsPlan}
 use Rattle.plan_files.specs.Capsules.{Capsule, AreCapsules}
 use Rattle.seq_target.specs.Model.{Target, Entry, simple_start}
@@ -60,7 +60,8 @@ abbrev pub AreRead : Told → List QueueLine → List (List Capsule) → Type 0
 AreRead told [] [] = Unit {0}
 AreRead told [] (file ∷ files) = ⊥
 AreRead told (q ∷ queues) [] = ⊥
-AreRead told (q ∷ queues) (file ∷ files) = ReadsCapsules told q.capsules file × AreRead told queues files
+AreRead told (q ∷ queues) (file ∷ files) = ReadsCapsules told q.capsules file
+    × AreRead told queues files
 
 -- plan, start and capsules are what the files told when they were read
 pub record IsRead (told : Told) (name : List ℕ) (run : Run) : Type 0 where
@@ -71,7 +72,8 @@ pub record IsRead (told : Told) (name : List ℕ) (run : Run) : Type 0 where
 -- ---- written
 -- a name holds exactly these bytes: it is there with them where it was told before or the files tell at all
 abbrev pub HoldsNow : Told → Told → List ℕ → List ℕ → Type 0
-HoldsNow before after name bytes = HoldsWritten before.tells (before.holds name) (after.holds name) bytes
+HoldsNow before after name bytes = HoldsWritten before.tells (before.holds name) (after.holds name)
+    bytes
 
 -- the response files of the queues are the prints of these lists
 abbrev pub AreWritten : Told → Told → List QueueLine → List (List Placed) → Type 0
@@ -87,7 +89,8 @@ IsWritten before after run = AreWritten before after run.plan.queues run.queues
 -- names that are no response file of these queues hold what they held
 abbrev pub KeptBut : Told → Told → List QueueLine → Type 0
 KeptBut before after queues =
-    (name : List ℕ) → AllByRecursion (λ q. name ≢ q.responses) queues → after.holds name ≡ before.holds name
+    (name : List ℕ) → AllByRecursion (λ q. name ≢ q.responses) queues
+    → after.holds name ≡ before.holds name
 
 -- where the sink tells what it took, it took exactly this after what it had taken
 abbrev pub Took : Option (List ℕ) → Option (List ℕ) → List ℕ → Type 0
@@ -100,7 +103,8 @@ Took (Some old) new text = new ≡ Some (old ++ text)
 -- files hold its prints and no other name was touched, and the sink took its summary and nothing else. Where files and
 -- sink tell, the plan and the capsule files are there, the response files are there with exactly the prints, and the
 -- text is exactly the one before and the summary.
-pub record Ran (told_before told_after : Told) (taken_before taken_after : Option (List ℕ)) (name : List ℕ) : Type 0 where
+pub record Ran (told_before told_after : Told) (taken_before taken_after : Option (List ℕ))
+    (name : List ℕ) : Type 0 where
   pub run : Run
   pub read : IsRead told_before name run
   pub ordered : IsOrdered run
@@ -139,7 +143,8 @@ alone plan disk file history = record {
 
 -- a queue's file was read and served from the start of a simple plan with this disk, and these are its records and the
 -- summary of each such plan
-pub record ServedPlan (told : Told) (disk : DiskLine) (queue : QueueLine) (records text : List ℕ) : Type 0 where
+pub record ServedPlan (told : Told) (disk : DiskLine) (queue : QueueLine)
+    (records text : List ℕ) : Type 0 where
   pub file : List Capsule
   pub read : ReadsCapsules told queue.capsules file
   pub history : List Entry

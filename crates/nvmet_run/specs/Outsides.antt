@@ -1,7 +1,7 @@
 -- What lies outside of a run, as far as files and sink speak of it, and calls that failed.
 use Rattle.std.specs.Prelude.{◌≡◌, ℕ, Bool, true, List, take, Option, Some, Result, Err}
-use Rattle.plan_files.specs.Outside.{LastCall, Rose, SinkTakes, SinkCause}
-use Rattle.plan_files.specs.declared.outside.SinkFault.{SinkFault}
+use Rattle.run_outside.specs.Outside.{LastCall, Rose, SinkTakes, SinkCause}
+use Rattle.run_outside.specs.declared.outside.SinkFault.{SinkFault}
 use Rattle.nvmet_run.specs.Headline.{Told}
 
 -- what names hold, how many calls have failed, the last call
@@ -26,7 +26,10 @@ abbrev pub sink_view : Option (List ℕ) → ℕ → SinkView
 sink_view taken faults = record { taken = taken; faults = faults }
 
 abbrev pub outside : Told → ℕ → Option LastCall → Option (List ℕ) → ℕ → Outside
-outside told faults last taken sink_faults = record { files = files_view told faults last; sink = sink_view taken sink_faults }
+outside told faults last taken sink_faults = record {
+  files = files_view told faults last;
+  sink = sink_view taken sink_faults;
+}
 
 -- ---- files
 

@@ -4,12 +4,12 @@ use Rattle.std.specs.List.{flat_map, sum_by}
 use Rattle.std.specs.Fmt.{decimal}
 use Rattle.sqe_cqe.specs.declared.cqe.Cqe.{Cqe}
 use Rattle.sqe_cqe.specs.declared.codes.TheConstants.{SUCCESS}
-use Rattle.plan_files.specs.declared.records.Answer.{Answer}
-use Rattle.plan_files.specs.declared.records.Answer.TheVariants as answers
-use Rattle.plan_files.specs.declared.records.Head.{Head}
-use Rattle.plan_files.specs.declared.records.Kind.{Kind}
-use Rattle.plan_files.specs.declared.records.Kind.TheVariants as kinds
-use Rattle.plan_files.specs.Records.{record_bytes}
+use Rattle.run_records.specs.declared.records.Answer.{Answer}
+use Rattle.run_records.specs.declared.records.Answer.TheVariants as answers
+use Rattle.run_records.specs.declared.records.Head.{Head}
+use Rattle.run_records.specs.declared.records.Kind.{Kind}
+use Rattle.run_records.specs.declared.records.Kind.TheVariants as kinds
+use Rattle.run_records.specs.Records.{record_bytes}
 use Rattle.seq_target.specs.declared.calls.Reply.{Reply}
 use Rattle.seq_target.specs.declared.calls.Reply.TheVariants.{Held, Answered, Waiting, NoEvent}
 use Rattle.seq_target.specs.Model.{Call, Submit, Execute, Control}
@@ -56,7 +56,8 @@ head_of place kind number reply len = record {
 -- the record of a placed entry
 unfoldable pub entry_bytes : Placed → List ℕ
 entry_bytes p =
-    record_bytes (head_of p.place (kind_of p.entry.call) (number_of p.entry.call) p.entry.reply (length p.entry.bytes)) p.entry.bytes
+    record_bytes (head_of p.place (kind_of p.entry.call) (number_of p.entry.call) p.entry.reply
+    (length p.entry.bytes)) p.entry.bytes
 
 -- a response file: the record of each entry of its queue, in order
 abbrev pub responses : List Placed → List ℕ
@@ -108,10 +109,13 @@ unfoldable pub places_line : ℕ → List ℕ
 places_line n = codes "places " ++ decimal n ++ 10 ∷ []
 
 unfoldable pub commands_line : ℕ → ℕ → ℕ → List ℕ
-commands_line submitted executed refused = codes "commands " ++ decimal submitted ++ codes " submitted " ++ decimal executed ++ codes " executed " ++ decimal refused ++ codes " refused" ++ 10 ∷ []
+commands_line submitted executed refused = codes "commands " ++ decimal submitted
+    ++ codes " submitted " ++ decimal executed ++ codes " executed " ++ decimal refused
+    ++ codes " refused" ++ 10 ∷ []
 
 unfoldable pub bytes_line : ℕ → ℕ → List ℕ
-bytes_line taken given = codes "bytes " ++ decimal taken ++ codes " in " ++ decimal given ++ codes " out" ++ 10 ∷ []
+bytes_line taken given = codes "bytes " ++ decimal taken ++ codes " in " ++ decimal given
+    ++ codes " out" ++ 10 ∷ []
 
 -- the lines of an editor that made no call
 abbrev pub no_edits : List ℕ
@@ -125,7 +129,8 @@ none_passed_over = codes "config 0 passed over" ++ 10 ∷ []
 
 abbrev pub summary_of : ℕ → ℕ → ℕ → ℕ → ℕ → ℕ → List ℕ
 summary_of places submitted executed refused taken given =
-    places_line places ++ no_edits ++ commands_line submitted executed refused ++ no_events ++ bytes_line taken given ++ none_passed_over
+    places_line places ++ no_edits ++ commands_line submitted executed refused ++ no_events
+    ++ bytes_line taken given ++ none_passed_over
 
 -- what all queues did
 abbrev pub all_placed : Run → List Placed
@@ -133,4 +138,6 @@ all_placed run = flat_map (λ list. list) run.queues
 
 -- the seven lines: places, edits, drains, commands, events, bytes, what a configuration passes over
 unfoldable pub summary : Run → List ℕ
-summary run = summary_of (length run.history) (submits_in (all_placed run)) (executes_in (all_placed run)) (refusals_in (all_placed run)) (bytes_taken (all_placed run)) (bytes_given (all_placed run))
+summary run = summary_of (length run.history) (submits_in (all_placed run))
+    (executes_in (all_placed run)) (refusals_in (all_placed run)) (bytes_taken (all_placed run))
+    (bytes_given (all_placed run))

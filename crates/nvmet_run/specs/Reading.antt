@@ -7,7 +7,7 @@ use Rattle.plan_files.specs.declared.capsules.CapsuleError.{CapsuleError}
 use Rattle.plan_files.specs.declared.capsules.CapsuleError.TheVariants as queues
 use Rattle.plan_files.specs.declared.limits.What.TheVariants.{Bytes}
 use Rattle.plan_files.specs.Binding.{◌>>=◌}
-use Rattle.plan_files.specs.Lines.{lines_of}
+use Rattle.text_lines.specs.Lines.{lines_of}
 use Rattle.plan_files.specs.PlanReading.{plan_in}
 use Rattle.plan_files.specs.Capsules.{Capsule}
 use Rattle.plan_files.specs.CapsuleReading.{capsules_of}
@@ -20,7 +20,8 @@ use Rattle.nvmet_run.specs.declared.status.Fault.TheVariants as fault
 
 -- the bytes of a file, where they are at most so many; the limit plus 1 is the count
 unfoldable pub content_of : ℕ → FileNo → List ℕ → Result (List ℕ) Fault
-content_of limit file bytes = if nat_lt limit (length bytes) then Err (fault.Limit file Bytes (limit + 1)) else Ok bytes
+content_of limit file bytes = if nat_lt limit (length bytes) then Err
+    (fault.Limit file Bytes (limit + 1)) else Ok bytes
 
 -- ---- the plan
 abbrev pub plan_error : PlanError → Fault
@@ -30,7 +31,8 @@ plan_error plans.Memory = fault.Memory
 
 -- a plan that isn't simple can't be run yet: what it lacks is missed on the line after the last
 abbrev pub if_simple : ℕ → Result Plan PlanError → Result Plan Fault
-if_simple next (Ok plan) = if plan.simple then Ok plan else Err (fault.Malformed PLAN (at.Line next))
+if_simple next (Ok plan) = if plan.simple then Ok plan else Err
+    (fault.Malformed PLAN (at.Line next))
 if_simple next (Err e) = Err (plan_error e)
 
 unfoldable pub simple_plan_in : List ℕ → Result Plan Fault

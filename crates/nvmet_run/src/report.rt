@@ -1,7 +1,7 @@
 // The one line that is put where a run did not end well. No memory is taken for it.
 ghost use Rattle.std.specs.Prelude.{◌≡◌, ◌++◌, ◌∷◌, []};
 ghost use Rattle.std.specs.Fmt.{decimal};
-ghost use Rattle.plan_files.specs.Outside.{SinkTakes, SinkCause};
+ghost use Rattle.run_outside.specs.Outside.{SinkTakes, SinkCause};
 ghost use Rattle.nvmet_run.specs.Texts.{line_of, malformed_line, limit_line, usage_line};
 
 use crate::status::{At, Fault, SINK};
@@ -10,7 +10,8 @@ use plan_files::{Sink, SinkFault, What};
 
 // Puts two pieces, one after the other.
 fn put_pair<K: Sink>(first: &[u8], second: &[u8], out: &mut K) -> Result<(), SinkFault>
-    ensures content { SinkTakes (K.taken out.old) (K.taken out.new) (first.now ++ second.now) result }
+    ensures content { SinkTakes (K.taken out.old) (K.taken out.new) (first.now ++ second.now)
+        result }
     ensures cause { SinkCause (K.faults out.old) (K.faults out.new) result }
 {
     match out.put(first) {
@@ -21,7 +22,8 @@ fn put_pair<K: Sink>(first: &[u8], second: &[u8], out: &mut K) -> Result<(), Sin
 
 // Puts a piece, a number and the end of the line.
 fn put_number<K: Sink>(before: &[u8], number: u64, out: &mut K) -> Result<(), SinkFault>
-    ensures content { SinkTakes (K.taken out.old) (K.taken out.new) (before.now ++ (decimal number ++ 10 ∷ [])) result }
+    ensures content { SinkTakes (K.taken out.old) (K.taken out.new) (before.now
+        ++ (decimal number ++ 10 ∷ [])) result }
     ensures cause { SinkCause (K.faults out.old) (K.faults out.new) result }
 {
     let mut digits = Buffer::new();
@@ -42,7 +44,8 @@ pub fn put_usage<K: Sink>(out: &mut K) -> Result<(), SinkFault>
 
 // Puts a word, the name of a file and the end of the line.
 fn put_name<K: Sink>(before: &[u8], file: &[u8], out: &mut K) -> Result<(), SinkFault>
-    ensures content { SinkTakes (K.taken out.old) (K.taken out.new) ((before.now ++ file.now) ++ 10 ∷ []) result }
+    ensures content { SinkTakes (K.taken out.old) (K.taken out.new) ((before.now ++ file.now) ++ 10
+        ∷ []) result }
     ensures cause { SinkCause (K.faults out.old) (K.faults out.new) result }
 {
     match put_pair(before, file, out) {
@@ -59,7 +62,8 @@ fn put_place<K: Sink>(
     number: u64,
     out: &mut K,
 ) -> Result<(), SinkFault>
-    ensures content { SinkTakes (K.taken out.old) (K.taken out.new) ((before.now ++ file.now) ++ (word.now ++ (decimal number ++ 10 ∷ []))) result }
+    ensures content { SinkTakes (K.taken out.old) (K.taken out.new) ((before.now ++ file.now)
+        ++ (word.now ++ (decimal number ++ 10 ∷ []))) result }
     ensures cause { SinkCause (K.faults out.old) (K.faults out.new) result }
 {
     match put_pair(before, file, out) {
@@ -71,7 +75,8 @@ fn put_place<K: Sink>(
 // Puts the line of a malformed file.
 #[tactic(auto, unfolding(crate::specs::Texts::malformed_line))]
 fn put_malformed<K: Sink>(file: &[u8], at: At, out: &mut K) -> Result<(), SinkFault>
-    ensures content { SinkTakes (K.taken out.old) (K.taken out.new) (malformed_line file.now at) result }
+    ensures content { SinkTakes (K.taken out.old) (K.taken out.new) (malformed_line file.now at)
+        result }
     ensures cause { SinkCause (K.faults out.old) (K.faults out.new) result }
 {
     match at {
@@ -82,7 +87,8 @@ fn put_malformed<K: Sink>(file: &[u8], at: At, out: &mut K) -> Result<(), SinkFa
 
 // Puts the line of a passed limit.
 fn put_limit<K: Sink>(file: &[u8], what: What, count: u64, out: &mut K) -> Result<(), SinkFault>
-    ensures content { SinkTakes (K.taken out.old) (K.taken out.new) (limit_line file.now what count) result }
+    ensures content { SinkTakes (K.taken out.old) (K.taken out.new) (limit_line file.now what count)
+        result }
     ensures cause { SinkCause (K.faults out.old) (K.faults out.new) result }
 {
     match put_pair(b"limit ", file, out) {
@@ -94,7 +100,8 @@ fn put_limit<K: Sink>(file: &[u8], what: What, count: u64, out: &mut K) -> Resul
 /// Puts the line of a fault in the file of this name. Nothing is put where the sink itself failed.
 #[tactic(auto, unfolding(crate::specs::Texts::line_of))]
 pub fn put_line<K: Sink>(file: &[u8], fault: &Fault, out: &mut K) -> Result<(), SinkFault>
-    ensures content { SinkTakes (K.taken out.old) (K.taken out.new) (line_of file.now fault.now) result }
+    ensures content { SinkTakes (K.taken out.old) (K.taken out.new) (line_of file.now fault.now)
+        result }
     ensures cause { SinkCause (K.faults out.old) (K.faults out.new) result }
 {
     match fault {

@@ -1,6 +1,6 @@
 ghost use Rattle.std.specs.Prelude.{◌≡◌, ◌≢◌, ◌≤◌, ◌⊎◌, ℕ, List, Some, None, IfOk, IfErr, OnOk, IsUtf8, string_bytes};
 ghost use Rattle.mem_bdev.specs.Blocks.{IsShape};
-ghost use Rattle.plan_files.specs.Outside.{Rose};
+ghost use Rattle.run_outside.specs.Outside.{Rose};
 ghost use Rattle.nvmet_run.specs.Codes.{status_of};
 ghost use Rattle.nvmet_run.specs.Headline.{told_by, ReadsPlan, ServedPlan, IsSimpleOf, IsRunnable, Ran};
 ghost use Rattle.nvmet_run.specs.Outsides.{files_view, sink_view, outside, Said};
@@ -16,7 +16,7 @@ use crate::serve::serve_file;
 use crate::status::{CAPSULES, Fault, FileNo, RESPONSES, Status};
 use crate::summary::summary_text;
 use mem_bdev::{Buffer, DiskLine};
-use plan_files::{Files, Gate, Plan, QueueLine, Sink, room};
+use plan_files::{Files, Gate, Plan, QueueLine, Sink};
 use seq_target::Target;
 use std::alloc::Global;
 use std::sync::Wait;
@@ -38,14 +38,20 @@ fn serve_plan<F: Files>(
 ) -> Result<Printed, Fault>
     requires shape { IsShape disk.now.shift disk.now.blocks }
     requires text { IsUtf8 queue.now.capsules }
-    ensures served { IfOk result (λ m. ServedPlan (told_by (F.tells files.old) (F.told files.old)) disk.now queue.now m.records.bytes (string_bytes m.text)) }
-    ensures refused { IfErr result (λ f. FileRefused CAPSULES queue.now.capsules capsules_of_file (files_view (told_by (F.tells files.old) (F.told files.old)) (F.faults files.old) (F.last files.old)) (files_view (told_by (F.tells files.new) (F.told files.new)) (F.faults files.new) (F.last files.new)) f) }
-    ensures same { (told_by (F.tells files.new) (F.told files.new)) ≡ (told_by (F.tells files.old) (F.told files.old)) }
+    ensures served { IfOk result (λ m. ServedPlan (told_by (F.tells files.old) (F.told files.old))
+        disk.now queue.now m.records.bytes (string_bytes m.text)) }
+    ensures refused { IfErr result (λ f. FileRefused CAPSULES queue.now.capsules capsules_of_file
+        (files_view (told_by (F.tells files.old) (F.told files.old)) (F.faults files.old)
+        (F.last files.old))
+        (files_view (told_by (F.tells files.new) (F.told files.new)) (F.faults files.new)
+        (F.last files.new)) f) }
+    ensures same { (told_by (F.tells files.new) (F.told files.new))
+        ≡ (told_by (F.tells files.old) (F.told files.old)) }
     ensures later { F.faults files.old ≤ F.faults files.new }
 {
     let file = read_capsule_file(alloc, &queue.capsules, files)?;
     let mut target = Target::simple(alloc, disk)?;
-    let mut output = Output::new(alloc, room(&file.capsules) as usize)?;
+    let mut output = Output::new(alloc, file.room as usize)?;
     serve_file(&mut target, 1, &file.capsules, &file.bytes, &mut output);
     let text = summary_text(alloc, &output)?;
     Ok(Printed {
@@ -74,8 +80,16 @@ fn run_read<F: Files, K: Sink>(
     out: &mut K,
 ) -> Result<(), Fault>
     requires { IsRunnable plan.now }
-    ensures ran { OnOk result ((name : List ℕ) → ReadsPlan (told_by (F.tells files.old) (F.told files.old)) name plan.now → Ran (told_by (F.tells files.old) (F.told files.old)) (told_by (F.tells files.new) (F.told files.new)) (K.taken out.old) (K.taken out.new) name) }
-    ensures refused { IfErr result (λ f. (name : List ℕ) → ReadsPlan (told_by (F.tells files.old) (F.told files.old)) name plan.now → ServingRefused (outside (told_by (F.tells files.old) (F.told files.old)) (F.faults files.old) (F.last files.old) (K.taken out.old) (K.faults out.old)) (outside (told_by (F.tells files.new) (F.told files.new)) (F.faults files.new) (F.last files.new) (K.taken out.new) (K.faults out.new)) name plan.now.queues f) }
+    ensures ran { OnOk result ((name : List ℕ)
+        → ReadsPlan (told_by (F.tells files.old) (F.told files.old)) name plan.now
+        → Ran (told_by (F.tells files.old) (F.told files.old)) (told_by (F.tells files.new)
+        (F.told files.new)) (K.taken out.old) (K.taken out.new) name) }
+    ensures refused { IfErr result (λ f. (name : List ℕ)
+        → ReadsPlan (told_by (F.tells files.old) (F.told files.old)) name plan.now → ServingRefused
+        (outside (told_by (F.tells files.old) (F.told files.old)) (F.faults files.old)
+        (F.last files.old) (K.taken out.old) (K.faults out.old))
+        (outside (told_by (F.tells files.new) (F.told files.new)) (F.faults files.new)
+        (F.last files.new) (K.taken out.new) (K.faults out.new)) name plan.now.queues f) }
 {
     let (disk, queue) = split_plan(plan);
     let made = serve_plan(alloc, disk, queue, files)?;
@@ -98,7 +112,9 @@ fn name_of<'a>(queues: &'a [QueueLine], name: &'a [u8], file: FileNo) -> &'a [u8
 // Puts the line of a fault in the file of this name, and hands the fault on.
 fn report_fault<K: Sink>(file: &[u8], fault: Fault, out: &mut K) -> Fault
     ensures same { result ≡ fault }
-    ensures said { Said (sink_view (K.taken out.old) (K.faults out.old)) (sink_view (K.taken out.new) (K.faults out.new)) (line_of file.now fault) }
+    ensures said { Said
+        (sink_view (K.taken out.old) (K.faults out.old))
+        (sink_view (K.taken out.new) (K.faults out.new)) (line_of file.now fault) }
 {
     let _ = put_line(file, &fault, out);
     fault
@@ -111,8 +127,14 @@ fn run_whole<F: Files, K: Sink>(
     files: &mut F,
     out: &mut K,
 ) -> Result<(), Fault>
-    ensures ran { OnOk result (Ran (told_by (F.tells files.old) (F.told files.old)) (told_by (F.tells files.new) (F.told files.new)) (K.taken out.old) (K.taken out.new) plan.now) }
-    ensures refused { IfErr result (λ f. Refusal (outside (told_by (F.tells files.old) (F.told files.old)) (F.faults files.old) (F.last files.old) (K.taken out.old) (K.faults out.old)) (outside (told_by (F.tells files.new) (F.told files.new)) (F.faults files.new) (F.last files.new) (K.taken out.new) (K.faults out.new)) plan.now f) }
+    ensures ran { OnOk result (Ran (told_by (F.tells files.old) (F.told files.old))
+        (told_by (F.tells files.new) (F.told files.new)) (K.taken out.old) (K.taken out.new)
+        plan.now) }
+    ensures refused { IfErr result (λ f. Refusal
+        (outside (told_by (F.tells files.old) (F.told files.old)) (F.faults files.old)
+        (F.last files.old) (K.taken out.old) (K.faults out.old))
+        (outside (told_by (F.tells files.new) (F.told files.new)) (F.faults files.new)
+        (F.last files.new) (K.taken out.new) (K.faults out.new)) plan.now f) }
 {
     let read = match read_plan_file(alloc, plan, files) {
         Ok(read) => read,
@@ -146,15 +168,26 @@ pub fn run_plan<R: Wait + Threads + Sync, F: Files, K: Sink, G: Gate + Sync>(
     out: &mut K,
     _gate: &G,
 ) -> Status
-    ensures fine { result ≡ Status.Fine → Ran (told_by (F.tells files.old) (F.told files.old)) (told_by (F.tells files.new) (F.told files.new)) (K.taken out.old) (K.taken out.new) plan.now }
+    ensures fine { result ≡ Status.Fine → Ran (told_by (F.tells files.old) (F.told files.old))
+        (told_by (F.tells files.new) (F.told files.new)) (K.taken out.old) (K.taken out.new)
+        plan.now }
     // The words are no matter of this call.
     ensures usage { result ≢ Status.Usage }
     // Why another status came, and what it left.
-    ensures refused { (f : Fault) → result ≡ status_of f → Refusal (outside (told_by (F.tells files.old) (F.told files.old)) (F.faults files.old) (F.last files.old) (K.taken out.old) (K.faults out.old)) (outside (told_by (F.tells files.new) (F.told files.new)) (F.faults files.new) (F.last files.new) (K.taken out.new) (K.faults out.new)) plan.now f }
+    ensures refused { (f : Fault) → result ≡ status_of f → Refusal
+        (outside (told_by (F.tells files.old) (F.told files.old)) (F.faults files.old)
+        (F.last files.old) (K.taken out.old) (K.faults out.old))
+        (outside (told_by (F.tells files.new) (F.told files.new)) (F.faults files.new)
+        (F.last files.new) (K.taken out.new) (K.faults out.new)) plan.now f }
     // Where told files have a first fault and no call on files fails, it's the answer, unless memory runs out.
-    ensures exact { (f : Fault) → FilesTell (told_by (F.tells files.old) (F.told files.old)) plan.now (Some f) → ¬ Rose (F.faults files.old) (F.faults files.new) → (result ≡ status_of f) ⊎ (result ≡ Status.Memory) }
+    ensures exact { (f : Fault) → FilesTell (told_by (F.tells files.old) (F.told files.old))
+        plan.now (Some f) → ¬ Rose (F.faults files.old) (F.faults files.new)
+        → (result ≡ status_of f) ⊎ (result ≡ Status.Memory) }
     // Where told files have none and no call fails, the run ends well, unless memory runs out.
-    ensures complete { FilesTell (told_by (F.tells files.old) (F.told files.old)) plan.now None → ¬ Rose (F.faults files.old) (F.faults files.new) → ¬ Rose (K.faults out.old) (K.faults out.new) → (result ≡ Status.Fine) ⊎ (result ≡ Status.Memory) }
+    ensures complete { FilesTell (told_by (F.tells files.old) (F.told files.old)) plan.now None
+        → ¬ Rose (F.faults files.old) (F.faults files.new)
+        → ¬ Rose (K.faults out.old) (K.faults out.new) → (result ≡ Status.Fine)
+        ⊎ (result ≡ Status.Memory) }
 {
     match run_whole(alloc, plan, files, out) {
         Ok(()) => Status::Fine,

@@ -3,7 +3,7 @@ ghost use Rattle.std.specs.List.{sum_by};
 ghost use Rattle.mem_bdev.specs.Texts.{HasRoom, appended};
 ghost use Rattle.sqe_cqe.specs.Sqe.{host_len, payload_len};
 ghost use Rattle.plan_files.specs.Capsules.{IsWholeIn, capsules_in};
-ghost use Rattle.plan_files.specs.Records.{record_bytes};
+ghost use Rattle.run_records.specs.Records.{record_bytes};
 ghost use Rattle.plan_files.specs.Rooms.{capsule_room};
 ghost use Rattle.seq_target.specs.Kept.{HasHeldData, held_bytes, held_len, holds};
 ghost use Rattle.seq_target.specs.Model.{Submit, Execute, Control};
@@ -36,7 +36,8 @@ fn control_one(
     ensures places { output.new.places ≡ output.old.places + 1 }
     ensures len { length output.new.records.bytes ≡ length output.old.records.bytes + HEAD_BYTES }
     ensures same_room { output.new.records.room ≡ output.old.records.room }
-    ensures makes { Makes (ServesOne queue number entry.now payload.now) target.old output.old target.new
+    ensures makes { Makes (ServesOne queue number entry.now payload.now) target.old output.old
+        target.new
         output.new }
 {
     let reply = target.control(queue, number, entry, payload);
@@ -59,7 +60,8 @@ fn execute_into(
     requires short { held_len target.old ≤ MAX_TRANSFER }
     requires room { HasRoom to.old (HEAD_BYTES + held_len target.old) }
     ensures idle { IsIdle target.new }
-    ensures does { Simulates target.old (Execute queue number payload.now) result.0 (held_bytes target.old)
+    ensures does { Simulates target.old (Execute queue number payload.now) result.0
+        (held_bytes target.old)
         target.new }
     ensures given { result.1 ≡ length (held_bytes target.old) }
     ensures small { result.1 ≡ held_len target.old }
@@ -89,7 +91,8 @@ fn execute_one(target: &mut Target, queue: u32, number: u32, payload: &[u8], out
     ensures len { length output.new.records.bytes ≡
         length output.old.records.bytes + (HEAD_BYTES + held_len target.old) }
     ensures same_room { output.new.records.room ≡ output.old.records.room }
-    ensures makes { Makes (Single (Execute queue number payload.now)) target.old output.old target.new
+    ensures makes { Makes (Single (Execute queue number payload.now)) target.old output.old
+        target.new
         output.new }
 {
     let place = output.places;
@@ -115,11 +118,19 @@ fn submit_one(
     ensures places { output.new.places ≡ output.old.places + 1 }
     ensures len { length output.new.records.bytes ≡ length output.old.records.bytes + HEAD_BYTES }
     ensures same_room { output.new.records.room ≡ output.old.records.room }
-    ensures makes { Makes (Replied (Submit queue number entry.now) result) target.old output.old target.new
+    ensures makes { Makes (Replied (Submit queue number entry.now) result) target.old output.old
+        target.new
         output.new }
 {
     let reply = target.submit(queue, number, entry);
-    output.add(output.places, Kind::Submit, number, &reply);
+    let is_held = was_held(&reply);
+    // The two are apart, since the record of a held command is known but for its place and number: 38 instructions less
+    // a command.
+    if is_held {
+        output.add(output.places, Kind::Submit, number, &Reply::Held);
+    } else {
+        output.add(output.places, Kind::Submit, number, &reply);
+    }
     reply
 }
 
@@ -153,7 +164,8 @@ fn command_one(
     ensures len { length output.new.records.bytes ≤
         length output.old.records.bytes + capsule_room entry.now }
     ensures same_room { output.new.records.room ≡ output.old.records.room }
-    ensures makes { Makes (ServesOne queue number entry.now payload.now) target.old output.old target.new
+    ensures makes { Makes (ServesOne queue number entry.now payload.now) target.old output.old
+        target.new
         output.new }
 {
     let reply = submit_one(target, queue, number, entry, output);
@@ -182,7 +194,8 @@ fn serve_one(
     ensures len { length output.new.records.bytes ≤
         length output.old.records.bytes + capsule_room entry.now }
     ensures same_room { output.new.records.room ≡ output.old.records.room }
-    ensures makes { Makes (ServesOne queue number entry.now payload.now) target.old output.old target.new
+    ensures makes { Makes (ServesOne queue number entry.now payload.now) target.old output.old
+        target.new
         output.new }
 {
     if entry.opcode == FABRICS {
@@ -207,7 +220,8 @@ pub fn serve_file(
     requires fresh { output.old.places ≡ 0 }
     requires room { HasRoom output.old.records (sum_by (λ c. capsule_room c.sqe) capsules.now) }
     ensures places { output.new.places ≤ 131072 }
-    ensures makes { Makes (ServesFile queue 0 (capsules_in file.now capsules.now)) target.old output.old
+    ensures makes { Makes (ServesFile queue 0 (capsules_in file.now capsules.now)) target.old
+        output.old
         target.new output.new }
 {
     for (number, capsule) in capsules.iter().enumerate() {

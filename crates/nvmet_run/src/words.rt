@@ -1,5 +1,5 @@
 ghost use Rattle.std.specs.Prelude.{◌≡◌, ◌⊎◌, ◌↔◌, ℕ, List, Some, None, MatchOption};
-ghost use Rattle.plan_files.specs.Outside.{Rose};
+ghost use Rattle.run_outside.specs.Outside.{Rose};
 ghost use Rattle.nvmet_run.specs.Codes.{status_of};
 ghost use Rattle.nvmet_run.specs.Headline.{told_by, Ran};
 ghost use Rattle.nvmet_run.specs.Outsides.{files_view, sink_view, outside, Said};
@@ -26,7 +26,8 @@ fn names_a_plan(word: &str) -> bool
 
 // The plan's name, where the words are `run` and a name.
 fn plan_of(words: &[String]) -> Option<&str>
-    ensures { MatchOption result (plan_named words.now ≡ None) (λ plan. plan_named words.now ≡ Some plan.now) }
+    ensures { MatchOption result (plan_named words.now ≡ None) (λ plan. plan_named words.now
+        ≡ Some plan.now) }
 {
     match words {
         [verb, name] => {
@@ -53,18 +54,37 @@ pub fn command<R: Wait + Threads + Sync, F: Files, K: Sink, G: Gate + Sync>(
     out: &mut K,
     gate: &G,
 ) -> Status
-    ensures fine { result ≡ Status.Fine → ((plan : List ℕ) × (plan_named words.now ≡ Some plan) × Ran (told_by (F.tells files.old) (F.told files.old)) (told_by (F.tells files.new) (F.told files.new)) (K.taken out.old) (K.taken out.new) plan) }
+    ensures fine { result ≡ Status.Fine → ((plan : List ℕ) × (plan_named words.now ≡ Some plan)
+        × Ran (told_by (F.tells files.old) (F.told files.old)) (told_by (F.tells files.new)
+        (F.told files.new)) (K.taken out.old) (K.taken out.new) plan) }
     // Where the words are no command, and only there.
     ensures usage { (result ≡ Status.Usage) ↔ (plan_named words.now ≡ None) }
     // No file is then touched, and the sink took the line that says how to call the program.
-    ensures untouched { result ≡ Status.Usage → files_view (told_by (F.tells files.new) (F.told files.new)) (F.faults files.new) (F.last files.new) ≡ files_view (told_by (F.tells files.old) (F.told files.old)) (F.faults files.old) (F.last files.old) }
-    ensures said { result ≡ Status.Usage → Said (sink_view (K.taken out.old) (K.faults out.old)) (sink_view (K.taken out.new) (K.faults out.new)) usage_line }
+    ensures untouched { result ≡ Status.Usage
+        → files_view (told_by (F.tells files.new) (F.told files.new)) (F.faults files.new)
+        (F.last files.new) ≡ files_view (told_by (F.tells files.old) (F.told files.old))
+        (F.faults files.old) (F.last files.old) }
+    ensures said { result ≡ Status.Usage → Said
+        (sink_view (K.taken out.old) (K.faults out.old))
+        (sink_view (K.taken out.new) (K.faults out.new)) usage_line }
     // Why another status came, and what it left.
-    ensures refused { (f : Fault) → result ≡ status_of f → ((plan : List ℕ) × (plan_named words.now ≡ Some plan) × Refusal (outside (told_by (F.tells files.old) (F.told files.old)) (F.faults files.old) (F.last files.old) (K.taken out.old) (K.faults out.old)) (outside (told_by (F.tells files.new) (F.told files.new)) (F.faults files.new) (F.last files.new) (K.taken out.new) (K.faults out.new)) plan f) }
+    ensures refused { (f : Fault) → result ≡ status_of f
+        → ((plan : List ℕ) × (plan_named words.now ≡ Some plan) × Refusal
+        (outside (told_by (F.tells files.old) (F.told files.old)) (F.faults files.old)
+        (F.last files.old) (K.taken out.old) (K.faults out.old))
+        (outside (told_by (F.tells files.new) (F.told files.new)) (F.faults files.new)
+        (F.last files.new) (K.taken out.new) (K.faults out.new)) plan f) }
     // Where told files have a first fault and no call on files fails, it's the answer, unless memory runs out.
-    ensures exact { (plan : List ℕ) → plan_named words.now ≡ Some plan → (f : Fault) → FilesTell (told_by (F.tells files.old) (F.told files.old)) plan (Some f) → ¬ Rose (F.faults files.old) (F.faults files.new) → (result ≡ status_of f) ⊎ (result ≡ Status.Memory) }
+    ensures exact { (plan : List ℕ) → plan_named words.now ≡ Some plan → (f : Fault)
+        → FilesTell (told_by (F.tells files.old) (F.told files.old)) plan (Some f)
+        → ¬ Rose (F.faults files.old) (F.faults files.new) → (result ≡ status_of f)
+        ⊎ (result ≡ Status.Memory) }
     // Where told files have none and no call fails, the run ends well, unless memory runs out.
-    ensures complete { (plan : List ℕ) → plan_named words.now ≡ Some plan → FilesTell (told_by (F.tells files.old) (F.told files.old)) plan None → ¬ Rose (F.faults files.old) (F.faults files.new) → ¬ Rose (K.faults out.old) (K.faults out.new) → (result ≡ Status.Fine) ⊎ (result ≡ Status.Memory) }
+    ensures complete { (plan : List ℕ) → plan_named words.now ≡ Some plan
+        → FilesTell (told_by (F.tells files.old) (F.told files.old)) plan None
+        → ¬ Rose (F.faults files.old) (F.faults files.new)
+        → ¬ Rose (K.faults out.old) (K.faults out.new) → (result ≡ Status.Fine)
+        ⊎ (result ≡ Status.Memory) }
 {
     match plan_of(words) {
         Some(plan) => run_plan(rt, alloc, plan, files, out, gate),

@@ -14,7 +14,8 @@ abbrev pub IsCut : List ℕ → Type 0
 IsCut bytes =
     (0 < length bytes)
     × ((length bytes < 64)
-    ⊎ ((payload_len (head_of bytes) ≤ MAX_TRANSFER) × (length bytes < 64 + payload_len (head_of bytes))))
+    ⊎ ((payload_len (head_of bytes) ≤ MAX_TRANSFER)
+    × (length bytes < 64 + payload_len (head_of bytes))))
 
 -- one more capsule begins here, and none may
 pub record PassesCapsules (more : ℕ) (bytes : List ℕ) (count : ℕ) : Type 0 where
@@ -44,7 +45,8 @@ NextFault more room offset bytes errors.Memory = ⊥
 NextFault more room offset bytes (errors.Cut at) = (at ≡ offset) × (0 < more) × IsCut bytes
 NextFault more room offset bytes (errors.TooLong what count) =
     ((what ≡ Capsules) × PassesCapsules more bytes count)
-    ⊎ (((what ≡ Data) × PassesData more bytes count) ⊎ ((what ≡ Output) × PassesOutput more room bytes count))
+    ⊎ (((what ≡ Data) × PassesData more bytes count)
+    ⊎ ((what ≡ Output) × PassesOutput more room bytes count))
 
 -- Whole capsules within the limits fill the first bytes of the file, and the next one can't be read for this reason.
 pub record FirstFault (bytes : List ℕ) (e : CapsuleError) : Type 0 where

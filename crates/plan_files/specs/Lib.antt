@@ -1,8 +1,4 @@
-pub mod Outside
-pub mod Kept
-pub mod Pieces
 pub mod Words
-pub mod Lines
 pub mod Spelling
 pub mod Shown
 pub mod Plans
@@ -12,7 +8,4 @@ pub mod Capsules
 pub mod Binding
 pub mod CapsuleReading
 pub mod CapsuleFaults
-pub mod Records
-pub mod Stored
-pub mod Adapters
 pub mod PlanFaults

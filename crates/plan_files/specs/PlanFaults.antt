@@ -8,9 +8,9 @@ use Rattle.mem_bdev.specs.declared.limits.TheConstants.{MAX_DISK_BYTES}
 use Rattle.plan_files.specs.declared.plan.TheConstants.{MAX_DISKS, MAX_ALL_DISK_BYTES, MAX_QUEUES}
 use Rattle.plan_files.specs.declared.plan.PlanError.{PlanError}
 use Rattle.plan_files.specs.declared.plan.PlanError.TheVariants as errors
-use Rattle.plan_files.specs.Lines.{lines_of}
+use Rattle.text_lines.specs.Lines.{is_passed_over, lines_of}
 use Rattle.plan_files.specs.Spelling.{spelling, fits}
-use Rattle.plan_files.specs.Plans.{no_plan, with_item, is_new, agrees, is_complete, item_bytes, total_of, is_passed_over, Makes}
+use Rattle.plan_files.specs.Plans.{no_plan, with_item, is_new, agrees, is_complete, item_bytes, total_of, Makes}
 
 -- the number of the line that follows the head and so many more lines; it stands still at 2 ^ 32 - 1
 abbrev pub number_after : ℕ → ℕ
@@ -20,15 +20,20 @@ number_after count = min (2 + count) (2 ^ 32 - 1)
 -- repeats no path or name, and agrees with the others.
 pub record IsBad (p : Plan) (line : List ℕ) : Type 0 where
   pub looked_at : is_passed_over line ≡ false
-  pub none : (item : Item) → line ≡ spelling item → fits item ≡ true → (is_new p item && agrees (with_item p item)) ≡ false
+  pub none : (item : Item) → line ≡ spelling item → fits item ≡ true
+      → (is_new p item && agrees (with_item p item)) ≡ false
 
 -- the first limit that a plan passes, where its newest disk has so many bytes
 abbrev pub PassesFirst : Plan → ℕ → What → ℕ → Type 0
 PassesFirst p bytes what count =
     ((what ≡ Disks) × (count ≡ length p.disks) × (MAX_DISKS < count))
-    ⊎ (((what ≡ DiskBytes) × (count ≡ bytes) × (MAX_DISK_BYTES < count) × (length p.disks ≤ MAX_DISKS))
-    ⊎ (((what ≡ AllDiskBytes) × (count ≡ total_of p.disks) × (MAX_ALL_DISK_BYTES < count) × (length p.disks ≤ MAX_DISKS) × (bytes ≤ MAX_DISK_BYTES))
-    ⊎ ((what ≡ Queues) × (count ≡ length p.queues) × (MAX_QUEUES < count) × (length p.disks ≤ MAX_DISKS) × (bytes ≤ MAX_DISK_BYTES) × (total_of p.disks ≤ MAX_ALL_DISK_BYTES))))
+    ⊎ (((what ≡ DiskBytes) × (count ≡ bytes) × (MAX_DISK_BYTES < count)
+    × (length p.disks ≤ MAX_DISKS))
+    ⊎ (((what ≡ AllDiskBytes) × (count ≡ total_of p.disks) × (MAX_ALL_DISK_BYTES < count)
+    × (length p.disks ≤ MAX_DISKS) × (bytes ≤ MAX_DISK_BYTES))
+    ⊎ ((what ≡ Queues) × (count ≡ length p.queues) × (MAX_QUEUES < count)
+    × (length p.disks ≤ MAX_DISKS) × (bytes ≤ MAX_DISK_BYTES)
+    × (total_of p.disks ≤ MAX_ALL_DISK_BYTES))))
 
 -- a line that may stand after those of this plan, and with which the plan passes a limit
 pub record PassesLimit (p : Plan) (line : List ℕ) (what : What) (count : ℕ) : Type 0 where
@@ -66,5 +71,7 @@ pub record Lacks (lines : List (List ℕ)) (e : PlanError) : Type 0 where
 -- The first line isn't the head of a plan; or, after it, a line can't be added to those before it, or something is missing.
 abbrev pub FirstFault : List ℕ → PlanError → Type 0
 FirstFault bytes e =
-    ((e ≡ errors.BadLine 1) × ((lines : List (List ℕ)) → lines_of bytes ≢ codes "nvmet-plan 1" ∷ lines))
-    ⊎ ((lines : List (List ℕ)) × (lines_of bytes ≡ codes "nvmet-plan 1" ∷ lines) × (StopsAt lines e ⊎ Lacks lines e))
+    ((e ≡ errors.BadLine 1) × ((lines : List (List ℕ)) → lines_of bytes ≢ codes "nvmet-plan 1"
+    ∷ lines))
+    ⊎ ((lines : List (List ℕ)) × (lines_of bytes ≡ codes "nvmet-plan 1" ∷ lines)
+    × (StopsAt lines e ⊎ Lacks lines e))

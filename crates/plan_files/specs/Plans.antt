@@ -12,12 +12,19 @@ use Rattle.plan_files.specs.declared.plan.TheConstants.{MAX_DISKS, MAX_ALL_DISK_
 use Rattle.plan_files.specs.declared.plan.PlanError.{PlanError}
 use Rattle.plan_files.specs.declared.plan.PlanError.TheVariants as errors
 use Rattle.plan_files.specs.declared.limits.What.TheVariants.{Disks, DiskBytes, AllDiskBytes, Queues}
-use Rattle.plan_files.specs.Lines.{lines_of}
+use Rattle.text_lines.specs.Lines.{is_passed_over, lines_of}
 use Rattle.plan_files.specs.Spelling.{spelling, fits}
 
 -- a plan that says nothing yet
 abbrev pub no_plan : Plan
-no_plan = record { simple = false; disks = []; config = None; script = None; journal = None; queues = [] }
+no_plan = record {
+  simple = false;
+  disks = [];
+  config = None;
+  script = None;
+  journal = None;
+  queues = [];
+}
 
 -- the plan with one more item
 abbrev pub with_item : Plan → Item → Plan
@@ -37,7 +44,8 @@ has_name (Some n) name = bytes_eq n name
 -- whether no earlier line has this file name
 unfoldable pub is_free : Plan → List ℕ → Bool
 is_free p name =
-    not (has_name p.config name || has_name p.script name || has_name p.journal name || list_any (λ q. bytes_eq q.capsules name || bytes_eq q.responses name) p.queues)
+    not (has_name p.config name || has_name p.script name || has_name p.journal name
+    || list_any (λ q. bytes_eq q.capsules name || bytes_eq q.responses name) p.queues)
 
 -- not one too many of its kind, and no disk path or file name that stands already
 unfoldable pub is_new : Plan → Item → Bool
@@ -46,17 +54,21 @@ is_new p (Disk d) = not (list_any (λ e. bytes_eq e.path d.path) p.disks)
 is_new p (Config name) = not (is_some p.config) && is_free p name
 is_new p (Script name) = not (is_some p.script) && is_free p name
 is_new p (Journal name) = not (is_some p.journal) && is_free p name
-is_new p (Queue q) = is_free p q.capsules && is_free p q.responses && not (bytes_eq q.capsules q.responses)
+is_new p (Queue q) = is_free p q.capsules && is_free p q.responses
+    && not (bytes_eq q.capsules q.responses)
 
 -- a simple plan names no other file, and has at most one disk and one queue, by port 1
 unfoldable pub agrees : Plan → Bool
 agrees p =
     not p.simple
-    || not (is_some p.config) && not (is_some p.script) && not (is_some p.journal) && nat_le (length p.disks) 1 && nat_le (length p.queues) 1 && list_all (λ q. q.port == 1) p.queues
+    || not (is_some p.config) && not (is_some p.script) && not (is_some p.journal)
+    && nat_le (length p.disks) 1 && nat_le (length p.queues) 1
+    && list_all (λ q. q.port == 1) p.queues
 
 -- a simple plan has one disk and one queue, another one a configuration and a journal
 unfoldable pub is_complete : Plan → Bool
-is_complete p = if p.simple then length p.disks == 1 && length p.queues == 1 else (is_some p.config && is_some p.journal)
+is_complete p = if p.simple then length p.disks == 1 && length p.queues == 1 else (is_some p.config
+    && is_some p.journal)
 
 abbrev pub disk_bytes : DiskLine → ℕ
 disk_bytes d = d.blocks * 2 ^ d.shift
@@ -79,16 +91,12 @@ unfoldable pub within : Plan → ℕ → Result Plan PlanError
 within p bytes =
     if nat_lt MAX_DISKS (length p.disks) then Err (errors.TooLong Disks (length p.disks)) else
     (if nat_lt MAX_DISK_BYTES bytes then Err (errors.TooLong DiskBytes bytes) else
-    (if nat_lt MAX_ALL_DISK_BYTES (total_of p.disks) then Err (errors.TooLong AllDiskBytes (total_of p.disks)) else
+    (if nat_lt MAX_ALL_DISK_BYTES (total_of p.disks) then Err (errors.TooLong AllDiskBytes
+    (total_of p.disks)) else
     (if nat_lt MAX_QUEUES (length p.queues) then Err (errors.TooLong Queues (length p.queues)) else
     Ok p)))
 
 -- ---- a plan, line after line
-
--- an empty line and one that begins with `#` are passed over
-abbrev pub is_passed_over : List ℕ → Bool
-is_passed_over [] = true
-is_passed_over (b ∷ line) = b == 35
 
 -- what an item may add to a plan
 pub record IsAllowed (p : Plan) (item : Item) : Type 0 where
@@ -104,7 +112,8 @@ abbrev pub Makes : List (List ℕ) → Plan → Plan → Type 0
 Makes [] p q = q ≡ p
 Makes (line ∷ lines) p q =
     ((is_passed_over line ≡ true) × Makes lines p q)
-    ⊎ ((is_passed_over line ≡ false) × (item : Item) × (line ≡ spelling item) × (fits item ≡ true) × IsAllowed p item × Makes lines (with_item p item) q)
+    ⊎ ((is_passed_over line ≡ false) × (item : Item) × (line ≡ spelling item) × (fits item ≡ true)
+    × IsAllowed p item × Makes lines (with_item p item) q)
 
 -- they make it a plan in which nothing is missing
 abbrev pub Adds : List (List ℕ) → Plan → Plan → Type 0

@@ -7,5 +7,6 @@ use Rattle.plan_files.specs.declared.line_items.LineWords.TheVariants.{One, Two,
 abbrev pub AreWords : List (List ℕ) → LineWords → Type 0
 AreWords words (One kind) = words ≡ kind.now ∷ []
 AreWords words (Two kind name) = words ≡ kind.now ∷ name.now ∷ []
-AreWords words (Four kind first second third) = words ≡ kind.now ∷ first.now ∷ second.now ∷ third.now ∷ []
+AreWords words (Four kind first second third) = words ≡ kind.now ∷ first.now ∷ second.now
+    ∷ third.now ∷ []
 AreWords words Other = said_by words ≡ None

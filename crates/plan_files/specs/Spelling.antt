@@ -11,7 +11,7 @@ use Rattle.plan_files.specs.declared.items.QueueLine.{QueueLine}
 use Rattle.plan_files.specs.declared.items.Item.{Item}
 use Rattle.plan_files.specs.declared.items.Item.TheVariants.{Simple, Disk, Config, Script, Journal, Queue}
 use Rattle.plan_files.specs.declared.line_items.TheConstants.{MAX_NAME}
-use Rattle.plan_files.specs.Lines.{words_of}
+use Rattle.text_lines.specs.Lines.{words_of}
 
 -- the words of a line that says an item
 abbrev pub item_words : Item → List (List ℕ)
@@ -28,11 +28,13 @@ spelling item = join_with_byte 32 (item_words item)
 
 -- a name has 1 to 255 bytes from 21h to 7Eh
 unfoldable pub is_name : List ℕ → Bool
-is_name name = nat_le 1 (length name) && nat_le (length name) MAX_NAME && list_all is_ascii_graphic name
+is_name name = nat_le 1 (length name) && nat_le (length name) MAX_NAME
+    && list_all is_ascii_graphic name
 
 -- a disk has a name, blocks of 512 or 4,096 bytes, and from 1 block to one below 2 ^ 52
 unfoldable pub fits_disk : DiskLine → Bool
-fits_disk d = is_name d.path && (d.shift == 9 || d.shift == 12) && nat_le 1 d.blocks && nat_lt d.blocks (2 ^ 52)
+fits_disk d = is_name d.path && (d.shift == 9 || d.shift == 12) && nat_le 1 d.blocks
+    && nat_lt d.blocks (2 ^ 52)
 
 unfoldable pub fits_queue : QueueLine → Bool
 fits_queue q = nat_lt q.port 65536 && is_name q.capsules && is_name q.responses
@@ -50,11 +52,13 @@ fits (Queue q) = fits_queue q
 
 -- digits alone, with no leading zero but in `0` itself
 unfoldable pub is_numeral : List ℕ → Bool
-is_numeral word = nat_le 1 (length word) && (length word == 1 || not (slice_index word 0 == 48)) && list_all is_ascii_digit word
+is_numeral word = nat_le 1 (length word) && (length word == 1 || not (slice_index word 0 == 48))
+    && list_all is_ascii_digit word
 
 -- a number below 2 ^ 64
 unfoldable pub number_of : List ℕ → Option ℕ
-number_of word = if is_numeral word && nat_lt (digits_value 10 word) (2 ^ 64) then Some (digits_value 10 word) else None
+number_of word = if is_numeral word && nat_lt (digits_value 10 word) (2 ^ 64) then Some
+    (digits_value 10 word) else None
 
 -- an item that a line may say
 abbrev pub if_fits : Item → Option Item
@@ -62,11 +66,15 @@ if_fits item = if fits item then Some item else None
 
 unfoldable pub disk_of : List ℕ → List ℕ → List ℕ → Option Item
 disk_of path shift blocks =
-    option_and_then (λ s. option_and_then (λ n. if_fits (Disk (record { path = path; shift = s; blocks = n }))) (number_of blocks)) (number_of shift)
+    option_and_then
+    (λ s. option_and_then (λ n. if_fits (Disk (record { path = path; shift = s; blocks = n })))
+    (number_of blocks)) (number_of shift)
 
 unfoldable pub queue_of : List ℕ → List ℕ → List ℕ → Option Item
 queue_of port capsules responses =
-    option_and_then (λ n. if_fits (Queue (record { port = n; capsules = capsules; responses = responses }))) (number_of port)
+    option_and_then
+    (λ n. if_fits (Queue (record { port = n; capsules = capsules; responses = responses })))
+    (number_of port)
 
 unfoldable pub file_of : List ℕ → List ℕ → Option Item
 file_of kind name =

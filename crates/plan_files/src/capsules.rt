@@ -32,6 +32,15 @@ pub struct Capsule {
     pub data_len: usize,
 }
 
+/// The capsules of a file, and how many bytes the responses to them take at most.
+#[derive(Drop)]
+pub struct SizedCapsules {
+    /// The capsules, in the file's order.
+    pub capsules: Vec<Capsule>,
+    /// Their `room`.
+    pub room: u64,
+}
+
 /// Why a capsule file was not read.
 #[derive(Clone, Copy, Debug, PartialEq, Eq, Error)]
 pub enum CapsuleError {
@@ -78,15 +87,24 @@ fn room_for(e: &Sqe) -> u64
     }
 }
 
+// The next capsule of a file, and the room that it and those before it need.
+#[derive(Drop)]
+struct NextCapsule {
+    capsule: Capsule,
+    room: u64,
+}
+
 // The capsule at an offset, after capsules that need so much room.
 #[tactic(auto, unfolding(crate::specs::CapsuleReading::next_capsule))]
-fn capsule_at(bytes: &[u8], at: usize, room: u64) -> Result<Capsule, CapsuleError>
+fn capsule_at(bytes: &[u8], at: usize, room: u64) -> Result<NextCapsule, CapsuleError>
     requires inside { at ≤ length bytes.now }
     requires small { room ≤ MAX_OUTPUT }
-    ensures exact { Gives (capsule_in bytes.now) result (next_capsule at room (drop at bytes.now)) }
-    ensures whole { IfOk result (IsWholeIn bytes.now) }
-    ensures place { IfOk result (λ c. c.data_at ≡ at + 64) }
-    ensures roomy { IfOk result (λ c. room + capsule_room c.sqe ≤ MAX_OUTPUT) }
+    ensures exact { Gives (λ n. capsule_in bytes.now n.capsule) result
+        (next_capsule at room (drop at bytes.now)) }
+    ensures whole { IfOk result (λ n. IsWholeIn bytes.now n.capsule) }
+    ensures place { IfOk result (λ n. n.capsule.data_at ≡ at + 64) }
+    ensures room { IfOk result (λ n. n.room ≡ room + capsule_room n.capsule.sqe) }
+    ensures roomy { IfOk result (λ n. n.room ≤ MAX_OUTPUT) }
 {
     let cut = CapsuleError::Cut { offset: at as u64 };
     let left = bytes.len() - at;
@@ -105,12 +123,12 @@ fn capsule_at(bytes: &[u8], at: usize, room: u64) -> Result<Capsule, CapsuleErro
     if room > MAX_OUTPUT {
         return Err(too_long(What::Output, room));
     }
-    let data_at = at + 64;
-    Ok(Capsule {
+    let capsule = Capsule {
         sqe,
-        data_at,
+        data_at: at + 64,
         data_len,
-    })
+    };
+    Ok(NextCapsule { capsule, room })
 }
 
 fn too_long(what: What, count: u64) -> CapsuleError
@@ -119,11 +137,13 @@ fn too_long(what: What, count: u64) -> CapsuleError
     CapsuleError::TooLong { what, count }
 }
 
-// The capsules of a file, or its first fault.
-fn all_capsules(alloc: Global, bytes: &[u8]) -> Result<Vec<Capsule>, CapsuleError>
-    ensures exact { Gives (λ v. capsules_in bytes.now v.items) result (capsules_of bytes.now) }
-    ensures whole { IfOk result (λ v. All (IsWholeIn bytes.now) v.items) }
-    ensures places { IfOk result (λ v. StandBetween 0 (length bytes.now) v.items) }
+// The capsules of a file and their room, or its first fault.
+fn all_capsules(alloc: Global, bytes: &[u8]) -> Result<SizedCapsules, CapsuleError>
+    ensures exact { Gives (λ s. capsules_in bytes.now s.capsules.items) result
+        (capsules_of bytes.now) }
+    ensures whole { IfOk result (λ s. All (IsWholeIn bytes.now) s.capsules.items) }
+    ensures places { IfOk result (λ s. StandBetween 0 (length bytes.now) s.capsules.items) }
+    ensures room { IfOk result (λ s. s.room ≡ room_of (λ c. c.sqe) s.capsules.items) }
 {
     let mut capsules = Vec::new(alloc);
     let mut at = 0;
@@ -132,12 +152,24 @@ fn all_capsules(alloc: Global, bytes: &[u8]) -> Result<Vec<Capsule>, CapsuleErro
         if capsules.len() >= MAX_CAPSULES {
             return Err(too_long(What::Capsules, MAX_CAPSULES as u64 + 1));
         }
-        let capsule = capsule_at(bytes, at, room)?;
-        room += room_for(&capsule.sqe);
-        at = capsule.data_at + capsule.data_len;
-        capsules.push(capsule)?;
+        let next = capsule_at(bytes, at, room)?;
+        room = next.room;
+        at = next.capsule.data_at + next.capsule.data_len;
+        capsules.push(next.capsule)?;
     }
-    Ok(capsules)
+    Ok(SizedCapsules { capsules, room })
+}
+
+// The capsules of a file without their room, or its first fault.
+fn capsules_alone(alloc: Global, bytes: &[u8]) -> Result<Vec<Capsule>, CapsuleError>
+    ensures exact { Gives (λ v. capsules_in bytes.now v.items) result (capsules_of bytes.now) }
+    ensures whole { IfOk result (λ v. All (IsWholeIn bytes.now) v.items) }
+    ensures places { IfOk result (λ v. StandBetween 0 (length bytes.now) v.items) }
+{
+    match all_capsules(alloc, bytes) {
+        Ok(read) => Ok(read.capsules),
+        Err(error) => Err(error),
+    }
 }
 
 /// The capsules of a file, one after another with nothing between or after them: an entry of 64
@@ -150,7 +182,8 @@ pub fn read_capsules(alloc: Global, bytes: &[u8]) -> Result<Vec<Capsule>, Capsul
     ensures spelled { IfOk result (λ v. AreCapsules bytes.now (capsules_in bytes.now v.items)) }
     ensures within { IfOk result (λ v. AreWithin (capsules_in bytes.now v.items)) }
     // What is spelled so is read, unless memory runs out.
-    ensures only { (cs : List file.Capsule) → AreWithin cs → AreCapsules bytes.now cs → Gives (λ v. capsules_in bytes.now v.items) result (Ok cs) }
+    ensures only { (cs : List file.Capsule) → AreWithin cs → AreCapsules bytes.now cs
+        → Gives (λ v. capsules_in bytes.now v.items) result (Ok cs) }
     // Which fault it is.
     ensures exact { Gives (λ v. capsules_in bytes.now v.items) result (capsules_of bytes.now) }
     // The error is the file's first fault, and its first fault the error, unless memory runs out.
@@ -161,6 +194,31 @@ pub fn read_capsules(alloc: Global, bytes: &[u8]) -> Result<Vec<Capsule>, Capsul
     // end of the file.
     ensures whole { IfOk result (λ v. All (IsWholeIn bytes.now) v.items) }
     ensures places { IfOk result (λ v. StandBetween 0 (length bytes.now) v.items) }
+{
+    capsules_alone(alloc, bytes)
+}
+
+/// What `read_capsules` gives, and the room of these capsules, which the same pass counts.
+pub fn read_sized_capsules(alloc: Global, bytes: &[u8]) -> Result<SizedCapsules, CapsuleError>
+    // What is read is spelled so, within the limits.
+    ensures spelled { IfOk result
+        (λ s. AreCapsules bytes.now (capsules_in bytes.now s.capsules.items)) }
+    ensures within { IfOk result (λ s. AreWithin (capsules_in bytes.now s.capsules.items)) }
+    // What is spelled so is read, unless memory runs out.
+    ensures only { (cs : List file.Capsule) → AreWithin cs → AreCapsules bytes.now cs
+        → Gives (λ s. capsules_in bytes.now s.capsules.items) result (Ok cs) }
+    // Which fault it is.
+    ensures exact { Gives (λ s. capsules_in bytes.now s.capsules.items) result
+        (capsules_of bytes.now) }
+    // The error is the file's first fault, and its first fault the error, unless memory runs out.
+    ensures fault { IfErr result (λ e. e ≢ Memory → FirstFault bytes.now e) }
+    ensures faults { (e : file_error.CapsuleError) → FirstFault bytes.now e
+        → Gives (λ s. capsules_in bytes.now s.capsules.items) result (Err e) }
+    // Where the data stand, as in what `read_capsules` gives.
+    ensures whole { IfOk result (λ s. All (IsWholeIn bytes.now) s.capsules.items) }
+    ensures places { IfOk result (λ s. StandBetween 0 (length bytes.now) s.capsules.items) }
+    // The room is that of these capsules.
+    ensures room { IfOk result (λ s. s.room ≡ room_of (λ c. c.sqe) s.capsules.items) }
 {
     all_capsules(alloc, bytes)
 }

@@ -16,5 +16,6 @@ pub fn plans_fail_at_their_first_fault()
 /// A law, with nothing to run: the error of a capsule file is its first fault. Whole capsules within the limits fill the
 /// bytes before it, and the next one is cut or passes a limit; each such place is the error.
 pub fn capsule_files_fail_at_their_first_fault()
-    ensures { (bytes : List ℕ) (e : CapsuleError) → (capsules_of bytes ≡ Err e) ↔ capsule.FirstFault bytes e }
+    ensures { (bytes : List ℕ) (e : CapsuleError) → (capsules_of bytes ≡ Err e)
+        ↔ capsule.FirstFault bytes e }
 {}

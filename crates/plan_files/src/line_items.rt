@@ -1,36 +1,18 @@
 // One line of a plan: its words, and the item that they say.
-ghost use Rattle.std.specs.Prelude.{◌≡◌, ◌≢◌, ◌<◌, ◌∷◌, ℕ, length, slice_index, EachIndex, IfOk, [], MatchOption};
+ghost use Rattle.std.specs.Prelude.{◌≡◌, IfOk};
 ghost use Rattle.std.specs.Char.{is_ascii_digit, is_ascii_graphic};
 ghost use Rattle.std.specs.List.{list_all};
-ghost use Rattle.plan_files.specs.Lines.{words_of};
+ghost use Rattle.text_lines.specs.Lines.{words_of};
 ghost use Rattle.plan_files.specs.Spelling.{is_name, is_numeral, number_of, disk_of, queue_of, file_of, table_of, said_by, item_in};
 ghost use Rattle.plan_files.specs.Shown.{AreWords};
 
 use crate::items::{Item, QueueLine};
 use mem_bdev::{DiskLine, Name};
 use std::alloc::{AllocError, Global};
+use text_lines::cut_at;
 
 /// How many bytes a name has at most.
 pub const MAX_NAME: usize = 255;
-
-// Where a byte first stands.
-pub(crate) fn first_at(bytes: &[u8], byte: u8) -> Option<usize>
-    ensures { MatchOption result
-        (EachIndex bytes.now (λ k. slice_index bytes.now k ≢ byte))
-        (λ i. (i < length bytes.now) × (slice_index bytes.now i ≡ byte) × ((k : ℕ) → k < i → slice_index bytes.now k ≢ byte)) }
-{
-    bytes.iter().position(|b| *b == byte)
-}
-
-// The first word, and what follows the space after it.
-fn cut_word(text: &[u8]) -> (&[u8], Option<&[u8]>)
-    ensures { MatchOption result.1 (words_of text.now ≡ result.0.now ∷ []) (λ rest. words_of text.now ≡ result.0.now ∷ words_of rest.now) }
-{
-    match first_at(text, b' ') {
-        Some(end) => (&text[..end], Some(&text[end + 1..])),
-        None => (text, None),
-    }
-}
 
 // The words of a line, where there are as many as some item has.
 pub(crate) enum LineWords<'a> {
@@ -43,19 +25,19 @@ pub(crate) enum LineWords<'a> {
 fn line_words(line: &[u8]) -> LineWords<'_>
     ensures { AreWords (words_of line.now) result }
 {
-    let (kind, rest) = cut_word(line);
+    let (kind, rest) = cut_at(b' ', line);
     let Some(rest) = rest else {
         return LineWords::One(kind);
     };
-    let (first, rest) = cut_word(rest);
+    let (first, rest) = cut_at(b' ', rest);
     let Some(rest) = rest else {
         return LineWords::Two(kind, first);
     };
-    let (second, rest) = cut_word(rest);
+    let (second, rest) = cut_at(b' ', rest);
     let Some(rest) = rest else {
         return LineWords::Other;
     };
-    let (third, rest) = cut_word(rest);
+    let (third, rest) = cut_at(b' ', rest);
     match rest {
         None => LineWords::Four(kind, first, second, third),
         Some(_) => LineWords::Other,

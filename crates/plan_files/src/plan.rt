@@ -2,9 +2,9 @@
 ghost use Rattle.std.specs.Prelude.{◌≡◌, ◌≢◌, ◌⊎◌, ◌*◌, ◌^◌, ◌<◌, ◌≤◌, ◌+◌, ◌∷◌, ◌||◌, ◌&&◌, ◌==◌, not, true, length, IfOk, IfErr, OnOk, OnErr, Ok, Err};
 ghost use Rattle.std.specs.List.{list_any, list_all};
 ghost use Rattle.std.specs.Str.{bytes_eq};
-ghost use Rattle.plan_files.specs.Lines.{lines_of};
+ghost use Rattle.text_lines.specs.Lines.{is_passed_over, lines_of};
 ghost use Rattle.plan_files.specs.Spelling.{fits};
-ghost use Rattle.plan_files.specs.Plans.{IsPlan, no_plan, with_item, has_name, is_free, is_new, agrees, is_complete, item_bytes, total_of, within, is_passed_over};
+ghost use Rattle.plan_files.specs.Plans.{IsPlan, no_plan, with_item, has_name, is_free, is_new, agrees, is_complete, item_bytes, total_of, within};
 ghost use Rattle.plan_files.specs.declared.items.Plan as file;
 ghost use Rattle.plan_files.specs.PlanFaults.{FirstFault};
 ghost use Rattle.plan_files.specs.declared.plan.PlanError as file_error;
@@ -13,10 +13,11 @@ ghost use Rattle.plan_files.specs.declared.plan.PlanError.TheVariants.{Memory, B
 
 use crate::items::{Item, Plan, QueueLine};
 use crate::limits::What;
-use crate::line_items::{first_at, line_item};
+use crate::line_items::line_item;
 use lists::items::Items;
 use mem_bdev::{MAX_DISK_BYTES, Name};
 use std::alloc::{AllocError, Global};
+use text_lines::{cut_line, is_passed_over};
 use thiserror::Error;
 
 /// How many disks a plan has at most.
@@ -65,27 +66,6 @@ fn too_long(what: What, count: u64) -> PlanError
     PlanError::TooLong { what, count }
 }
 
-// The first line, and what follows it.
-fn cut_line(bytes: &[u8]) -> (&[u8], &[u8])
-    requires { 0 < length bytes.now }
-    ensures line { lines_of bytes.now ≡ result.0.now ∷ lines_of result.1.now }
-    ensures shorter { length result.1.now < length bytes.now }
-{
-    match first_at(bytes, b'\n') {
-        Some(end) => (&bytes[..end], &bytes[end + 1..]),
-        None => (bytes, &[]),
-    }
-}
-
-fn is_passed_over(line: &[u8]) -> bool
-    ensures { result ≡ is_passed_over line.now }
-{
-    match line {
-        [] => true,
-        [first, ..] => *first == b'#',
-    }
-}
-
 fn has_name(slot: &Option<Name>, name: &[u8]) -> bool
     ensures { result ≡ has_name slot.now name.now }
 {
@@ -96,13 +76,15 @@ fn has_name(slot: &Option<Name>, name: &[u8]) -> bool
 }
 
 fn names_queue(queue: &QueueLine, name: &[u8]) -> bool
-    ensures { result ≡ (bytes_eq queue.now.capsules name.now || bytes_eq queue.now.responses name.now) }
+    ensures { result ≡ (bytes_eq queue.now.capsules name.now
+        || bytes_eq queue.now.responses name.now) }
 {
     queue.capsules.as_bytes() == name || queue.responses.as_bytes() == name
 }
 
 fn names_a_queue(queues: &[QueueLine], name: &[u8]) -> bool
-    ensures { result ≡ list_any (λ q. bytes_eq q.capsules name.now || bytes_eq q.responses name.now) queues.now }
+    ensures { result ≡ list_any (λ q. bytes_eq q.capsules name.now || bytes_eq q.responses name.now)
+        queues.now }
 {
     queues.iter().any(|q| names_queue(q, name))
 }
@@ -128,7 +110,8 @@ fn has_path(plan: &Plan, path: &[u8]) -> bool
 }
 
 fn is_new_queue(plan: &Plan, q: &QueueLine) -> bool
-    ensures { result ≡ (is_free plan.now q.now.capsules && is_free plan.now q.now.responses && not (bytes_eq q.now.capsules q.now.responses)) }
+    ensures { result ≡ (is_free plan.now q.now.capsules && is_free plan.now q.now.responses
+        && not (bytes_eq q.now.capsules q.now.responses)) }
 {
     is_free(plan, q.capsules.as_bytes())
         && is_free(plan, q.responses.as_bytes())
@@ -208,7 +191,8 @@ fn within(plan: &Plan, bytes: u64, before: u64) -> Result<u64, PlanError>
     requires total { total_of plan.now.disks ≡ before + bytes }
     requires small { before ≤ MAX_ALL_DISK_BYTES }
     ensures exact { Leaves plan.now result (within plan.now bytes) }
-    ensures total { IfOk result (λ total. (total ≡ total_of plan.now.disks) × (total ≤ MAX_ALL_DISK_BYTES)) }
+    ensures total { IfOk result (λ total. (total ≡ total_of plan.now.disks)
+        × (total ≤ MAX_ALL_DISK_BYTES)) }
 {
     let disks = plan.disks.as_slice().len();
     if disks > MAX_DISKS {
@@ -264,7 +248,8 @@ fn take_item(plan: &mut Plan, before: u64, line: u32, item: Item) -> Result<u64,
     requires small { before ≤ MAX_ALL_DISK_BYTES }
     requires fits { fits item ≡ true }
     ensures exact { Leaves plan.new result (item_taken line plan.old item) }
-    ensures total { IfOk result (λ total. (total ≡ total_of plan.new.disks) × (total ≤ MAX_ALL_DISK_BYTES)) }
+    ensures total { IfOk result (λ total. (total ≡ total_of plan.new.disks)
+        × (total ≤ MAX_ALL_DISK_BYTES)) }
 {
     if !is_new(plan, &item) {
         return Err(bad_line(line));
@@ -289,7 +274,8 @@ fn take_line(
     requires total { before ≡ total_of plan.old.disks }
     requires small { before ≤ MAX_ALL_DISK_BYTES }
     ensures exact { Leaves plan.new result (line_taken number plan.old line.now) }
-    ensures total { IfOk result (λ total. (total ≡ total_of plan.new.disks) × (total ≤ MAX_ALL_DISK_BYTES)) }
+    ensures total { IfOk result (λ total. (total ≡ total_of plan.new.disks)
+        × (total ≤ MAX_ALL_DISK_BYTES)) }
 {
     if is_passed_over(line) {
         return Ok(before);

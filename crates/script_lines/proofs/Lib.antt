@@ -1,4 +1,2 @@
-pub mod Cuts
-pub mod Trimming
 pub mod Values
 pub mod Whole

@@ -4,8 +4,7 @@ use Rattle.std.specs.Prelude.{position}
 use Rattle.std.specs.List.{position_from}
 use Rattle.std.proofs.lemmas.Bool.{cases_lt, lt-ltb, le-ltb}
 use Rattle.std.proofs.lemmas.Iterator.Adapters.{position_from-zero}
-use Rattle.plan_files.specs.Lines.{lines_of}
-use Rattle.plan_files.specs.Plans.{is_passed_over}
+use Rattle.text_lines.specs.Lines.{is_passed_over, lines_of}
 use Rattle.plan_files.specs.declared.limits.What.TheVariants.{Lines}
 use Rattle.script_lines.specs.Script.{is_text, is_bad, script_words}
 use Rattle.script_lines.specs.Reading.{Fails, numbered, lines_by, lines_in, line_taken}
@@ -14,7 +13,8 @@ use Rattle.script_lines.specs.declared.lines.LineError.{LineError}
 use Rattle.script_lines.specs.declared.lines.LineError.TheVariants as errors
 
 infixl 10 ◌>>=◌
-abbrev pub ◌>>=◌ : Result (List Line) LineError → (List Line → Result (List Line) LineError) → Result (List Line) LineError
+abbrev pub ◌>>=◌ : Result (List Line) LineError → (List Line → Result (List Line) LineError)
+    → Result (List Line) LineError
 (Ok lines) >>= f = f lines
 (Err e) >>= f = Err e
 
@@ -22,12 +22,14 @@ abbrev pub ◌>>=◌ : Result (List Line) LineError → (List Line → Result (L
 pub lines_left : ℕ → ℕ → List Line → List (List ℕ) → Result (List Line) LineError
 lines_left left n taken [] = Ok taken
 lines_left zero n taken (line ∷ lines) = Err (errors.TooLong Lines 65537)
-lines_left (suc left) n taken (line ∷ lines) = line_taken n taken line >>= λ more. lines_left left (n + 1) more lines
+lines_left (suc left) n taken (line ∷ lines) = line_taken n taken line >>= λ more. lines_left left
+    (n + 1) more lines
 
 -- by where the first bad one of these lines stands, where the first of them has the number i + 1
 told : ℕ → ℕ → List Line → Option ℕ → List (List ℕ) → Result (List Line) LineError
 told left i taken (Some k) lines = Err (errors.BadLine (k + 1))
-told left i taken None lines = if ltb left (length lines) then Err (errors.TooLong Lines 65537) else Ok (taken ++ numbered (i + 1) lines)
+told left i taken None lines = if ltb left (length lines) then Err (errors.TooLong Lines 65537) else
+    Ok (taken ++ numbered (i + 1) lines)
 
 abbrev line_of : ℕ → List ℕ → Line
 line_of n line = record { number = n; words = script_words line }
@@ -56,31 +58,43 @@ next left i taken more line lines None e = rw (e, ltb-suc left (length lines)) r
 -- a line by its two tests
 step : (left i : ℕ) (taken : List Line) (line : List ℕ) (lines : List (List ℕ)) (passed text : Bool)
     → is_passed_over line ≡ passed → is_text line ≡ text
-    → ((more : List Line) → lines_left left (i + 1 + 1) more lines ≡ told left (i + 1) more (position_from is_bad (i + 1) (take left lines)) lines)
-    → (line_taken (i + 1) taken line >>= λ more. lines_left left (i + 1 + 1) more lines) ≡ told (suc left) i taken (position_from is_bad i (line ∷ take left lines)) (line ∷ lines)
+    → ((more : List Line) → lines_left left (i + 1 + 1) more lines ≡ told left (i + 1) more
+    (position_from is_bad (i + 1) (take left lines)) lines)
+    → (line_taken (i + 1) taken line >>= λ more. lines_left left (i + 1 + 1) more lines)
+    ≡ told (suc left) i taken (position_from is_bad i (line ∷ take left lines)) (line ∷ lines)
 unfolding told line_taken
 step left i taken line lines true text p t rest =
-    rw p (rest taken ∙ next left i taken taken line lines (position_from is_bad (i + 1) (take left lines)) (rw p refl))
+    rw p (rest taken
+    ∙ next left i taken taken line lines (position_from is_bad (i + 1) (take left lines))
+    (rw p refl))
 step left i taken line lines false true p t rest =
     let more : List Line = taken ++ line_of (i + 1) line ∷ [] in
-    rw (p, t) (rest more ∙ next left i taken more line lines (position_from is_bad (i + 1) (take left lines)) (rw p (append_one taken (line_of (i + 1) line) (numbered (i + 1 + 1) lines))))
+    rw (p, t) (rest more
+    ∙ next left i taken more line lines (position_from is_bad (i + 1) (take left lines))
+    (rw p (append_one taken (line_of (i + 1) line) (numbered (i + 1 + 1) lines))))
 step left i taken line lines false false p t rest = rw (p, t) refl
 
-from : (left i : ℕ) (taken : List Line) (lines : List (List ℕ)) → lines_left left (i + 1) taken lines ≡ told left i taken (position_from is_bad i (take left lines)) lines
+from : (left i : ℕ) (taken : List Line) (lines : List (List ℕ))
+    → lines_left left (i + 1) taken lines ≡ told left i taken
+    (position_from is_bad i (take left lines)) lines
 unfolding lines_left told
 from zero i taken [] = rw append_none refl
 from (suc left) i taken [] = rw (append_none, le-ltb (suc left) 0 (omega arith)) refl
 from zero i taken (line ∷ lines) = rw (lt-ltb 0 (suc (length lines)) (omega arith)) refl
-from (suc left) i taken (line ∷ lines) = step left i taken line lines (is_passed_over line) (is_text line) refl refl (λ more. from left (i + 1) more lines)
+from (suc left) i taken (line ∷ lines) = step left i taken line lines (is_passed_over line)
+    (is_text line) refl refl (λ more. from left (i + 1) more lines)
 
-all_told : (most : ℕ) (o : Option ℕ) (lines : List (List ℕ)) → told most 0 [] o lines ≡ lines_by most o lines
+all_told : (most : ℕ) (o : Option ℕ) (lines : List (List ℕ))
+    → told most 0 [] o lines ≡ lines_by most o lines
 unfolding told
 all_told most (Some k) lines = refl
 all_told most None lines = refl
 
-whole_of : (most : ℕ) (lines : List (List ℕ)) → lines_left most 1 [] lines ≡ lines_by most (position is_bad (take most lines)) lines
+whole_of : (most : ℕ) (lines : List (List ℕ)) → lines_left most 1 [] lines
+    ≡ lines_by most (position is_bad (take most lines)) lines
 whole_of most lines =
-    rw (position_from-zero is_bad (take most lines)) (from most 0 [] lines ∙ all_told most (position_from is_bad 0 (take most lines)) lines)
+    rw (position_from-zero is_bad (take most lines)) (from most 0 [] lines
+    ∙ all_told most (position_from is_bad 0 (take most lines)) lines)
 
 pub whole : (bytes : List ℕ) → lines_left 65536 1 [] (lines_of bytes) ≡ lines_in bytes
 unfolding lines_in
@@ -92,50 +106,66 @@ less_one : (number : ℕ) → number < 65536 → 65536 - number ≡ suc (65536 -
 less_one number lt = omega arith
 
 -- the same with other words for the number of lines left and for the lines
-same : (left other n : ℕ) (taken : List Line) (lines more : List (List ℕ)) (all : Result (List Line) LineError)
-    → left ≡ other → lines ≡ more → lines_left left n taken lines ≡ all → lines_left other n taken more ≡ all
+same : (left other n : ℕ) (taken : List Line) (lines more : List (List ℕ))
+    (all : Result (List Line) LineError)
+    → left ≡ other → lines ≡ more → lines_left left n taken lines ≡ all
+    → lines_left other n taken more ≡ all
 same left other n taken lines more all e f so_far =
-    subst (λ (k : ℕ). lines_left k n taken more ≡ all) e (subst (λ (ls : List (List ℕ)). lines_left left n taken ls ≡ all) f so_far)
+    subst (λ (k : ℕ). lines_left k n taken more ≡ all) e
+    (subst (λ (ls : List (List ℕ)). lines_left left n taken ls ≡ all) f so_far)
 
 -- where line after line stands before a line
-one_more : (number : ℕ) (taken : List Line) (line : List ℕ) (lines rest : List (List ℕ)) (all : Result (List Line) LineError)
-    → number < 65536 → lines ≡ line ∷ rest → lines_left (65536 - number) (number + 1) taken lines ≡ all
-    → (line_taken (number + 1) taken line >>= λ q. lines_left (65536 - (number + 1)) (number + 1 + 1) q rest) ≡ all
+one_more : (number : ℕ) (taken : List Line) (line : List ℕ) (lines rest : List (List ℕ))
+    (all : Result (List Line) LineError)
+    → number < 65536 → lines ≡ line ∷ rest → lines_left (65536 - number) (number + 1) taken lines
+    ≡ all
+    → (line_taken (number + 1) taken line >>= λ q. lines_left (65536 - (number + 1)) (number + 1
+    + 1) q rest) ≡ all
 unfolding lines_left
-one_more number taken line lines rest all lt e so_far = same (65536 - number) (suc (65536 - (number + 1))) (number + 1) taken lines (line ∷ rest) all (less_one number lt) e so_far
+one_more number taken line lines rest all lt e so_far =
+    same (65536 - number) (suc (65536 - (number + 1))) (number + 1) taken lines (line ∷ rest) all
+    (less_one number lt) e so_far
 
 -- a line that was taken
-pub goes_on : (number : ℕ) (taken more : List Line) (line : List ℕ) (lines rest : List (List ℕ)) (all : Result (List Line) LineError)
+pub goes_on : (number : ℕ) (taken more : List Line) (line : List ℕ) (lines rest : List (List ℕ))
+    (all : Result (List Line) LineError)
     → number < 65536 → lines ≡ line ∷ rest → line_taken (number + 1) taken line ≡ Ok more
     → lines_left (65536 - number) (number + 1) taken lines ≡ all
     → lines_left (65536 - (number + 1)) (number + 1 + 1) more rest ≡ all
 goes_on number taken more line lines rest all lt e read so_far =
-    subst (λ r. (r >>= λ q. lines_left (65536 - (number + 1)) (number + 1 + 1) q rest) ≡ all) read (one_more number taken line lines rest all lt e so_far)
+    subst (λ r. (r >>= λ q. lines_left (65536 - (number + 1)) (number + 1 + 1) q rest) ≡ all) read
+    (one_more number taken line lines rest all lt e so_far)
 
-fails_so : (error : LineError) (read all : Result (List Line) LineError) (f : List Line → Result (List Line) LineError) → Fails error read → (read >>= f) ≡ all → Fails error all
+fails_so : (error : LineError) (read all : Result (List Line) LineError) (f : List Line
+    → Result (List Line) LineError) → Fails error read → (read >>= f) ≡ all → Fails error all
 fails_so errors.Memory read all f fails e = tt
 fails_so (errors.BadLine n) read all f fails e = sym (subst (λ r. (r >>= f) ≡ all) fails e)
 fails_so (errors.TooLong what count) read all f fails e = sym (subst (λ r. (r >>= f) ≡ all) fails e)
 
 -- a line that was refused
-pub ends : (error : LineError) (number : ℕ) (taken : List Line) (line : List ℕ) (lines rest : List (List ℕ)) (all : Result (List Line) LineError)
+pub ends : (error : LineError) (number : ℕ) (taken : List Line) (line : List ℕ)
+    (lines rest : List (List ℕ)) (all : Result (List Line) LineError)
     → number < 65536 → lines ≡ line ∷ rest → Fails error (line_taken (number + 1) taken line)
     → lines_left (65536 - number) (number + 1) taken lines ≡ all
     → Fails error all
 ends error number taken line lines rest all lt e fails so_far =
-    fails_so error (line_taken (number + 1) taken line) all (λ q. lines_left (65536 - (number + 1)) (number + 1 + 1) q rest) fails (one_more number taken line lines rest all lt e so_far)
+    fails_so error (line_taken (number + 1) taken line) all (λ q. lines_left (65536 - (number + 1))
+    (number + 1 + 1) q rest) fails (one_more number taken line lines rest all lt e so_far)
 
 -- more lines than a script may have
-pub too_many : (number : ℕ) (taken : List Line) (line : List ℕ) (lines rest : List (List ℕ)) (all : Result (List Line) LineError)
+pub too_many : (number : ℕ) (taken : List Line) (line : List ℕ) (lines rest : List (List ℕ))
+    (all : Result (List Line) LineError)
     → 65536 ≤ number → lines ≡ line ∷ rest
     → lines_left (65536 - number) (number + 1) taken lines ≡ all
     → all ≡ Err (errors.TooLong Lines 65537)
 unfolding lines_left
 too_many number taken line lines rest all le e so_far =
-    sym (same (65536 - number) zero (number + 1) taken lines (line ∷ rest) all (omega arith) e so_far)
+    sym (same (65536 - number) zero (number + 1) taken lines (line ∷ rest) all (omega arith) e
+    so_far)
 
 -- no line more
-pub is_done : (left n : ℕ) (taken : List Line) (lines : List (List ℕ)) (all : Result (List Line) LineError)
+pub is_done : (left n : ℕ) (taken : List Line) (lines : List (List ℕ))
+    (all : Result (List Line) LineError)
     → lines ≡ [] → lines_left left n taken lines ≡ all → all ≡ Ok taken
 unfolding lines_left
 is_done left n taken lines all e so_far = sym (same left left n taken lines [] all refl e so_far)

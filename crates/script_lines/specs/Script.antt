@@ -2,8 +2,7 @@
 use Rattle.std.specs.Prelude.{ℕ, nat_le, Bool, not, ◌&&◌, if◌then◌else◌, List, [], ◌∷◌, length, codes}
 use Rattle.std.specs.List.{list_all, join_with_byte}
 use Rattle.std.specs.Str.{bytes_eq}
-use Rattle.plan_files.specs.Lines.{words_of}
-use Rattle.plan_files.specs.Plans.{is_passed_over}
+use Rattle.text_lines.specs.Lines.{is_passed_over, words_of}
 
 -- ---- words
 
@@ -14,7 +13,8 @@ with_value [] = []
 with_value (kind ∷ []) = kind ∷ []
 with_value (kind ∷ folder ∷ []) = kind ∷ folder ∷ []
 with_value (kind ∷ folder ∷ attribute ∷ value) =
-    if bytes_eq kind (codes "set") then kind ∷ folder ∷ attribute ∷ join_with_byte 32 value ∷ [] else kind ∷ folder ∷ attribute ∷ value
+    if bytes_eq kind (codes "set") then kind ∷ folder ∷ attribute ∷ join_with_byte 32 value
+    ∷ [] else kind ∷ folder ∷ attribute ∷ value
 
 abbrev pub script_words : List ℕ → List (List ℕ)
 script_words line = with_value (words_of line)

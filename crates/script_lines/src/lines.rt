@@ -1,17 +1,17 @@
 // The lines of a script, one after another.
-ghost use Rattle.std.specs.Prelude.{◌≡◌, ◌≤◌, ◌<◌, ◌&&◌, ◌∷◌, nat_le, length, IfOk, MatchOption};
+ghost use Rattle.std.specs.Prelude.{◌≡◌, ◌≤◌, ◌&&◌, nat_le, length};
 ghost use Rattle.std.specs.List.{list_all};
-ghost use Rattle.plan_files.specs.Lines.{lines_of};
-ghost use Rattle.plan_files.specs.Plans.{is_passed_over};
+ghost use Rattle.text_lines.specs.Lines.{is_passed_over};
 ghost use Rattle.script_lines.specs.Script.{is_printable, is_text, script_words};
 ghost use Rattle.script_lines.specs.Reading.{Gives, Leaves, lines_in, line_taken};
 ghost use Rattle.script_lines.specs.declared.lines.LineError.TheVariants.{Memory};
 
-use crate::words::{cut_at, read_words};
+use crate::words::read_words;
 use lists::items::Items;
 use mem_bdev::Name;
 use plan_files::What;
 use std::alloc::{AllocError, AllocFailed, Global};
+use text_lines::{cut_line, is_passed_over};
 
 /// How many lines a script has at most, those that are passed over among them.
 pub const MAX_LINES: u32 = 65_536;
@@ -54,29 +54,6 @@ impl<T: Drop> From<AllocFailed<T>> for LineError {
 
     fn from(_e: AllocFailed<T>) -> LineError {
         LineError::Memory
-    }
-}
-
-// The first line, and what follows it.
-fn cut_line(bytes: &[u8]) -> (&[u8], &[u8])
-    requires { 0 < length bytes.now }
-    ensures line { lines_of bytes.now ≡ result.0.now ∷ lines_of result.1.now }
-    ensures shorter { length result.1.now < length bytes.now }
-{
-    let (line, rest) = cut_at(b'\n', bytes);
-    match rest {
-        Some(rest) => (line, rest),
-        None => (bytes, &[]),
-    }
-}
-
-// Whether a line is empty or a comment.
-fn is_passed_over(line: &[u8]) -> bool
-    ensures { result ≡ is_passed_over line.now }
-{
-    match line {
-        [] => true,
-        [first, ..] => *first == b'#',
     }
 }
 

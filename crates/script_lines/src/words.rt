@@ -1,34 +1,13 @@
 // The words of a line.
-ghost use Rattle.std.specs.Prelude.{◌≡◌, ◌<◌, ◌∷◌, ◌++◌, ◌==◌, [], MatchOption, IfOk, length, position, codes};
-ghost use Rattle.std.specs.List.{slice_split};
+ghost use Rattle.std.specs.Prelude.{◌≡◌, ◌∷◌, ◌++◌, [], IfOk, codes};
 ghost use Rattle.std.specs.Str.{bytes_eq};
-ghost use Rattle.plan_files.specs.Lines.{words_of};
+ghost use Rattle.text_lines.specs.Lines.{words_of};
 ghost use Rattle.script_lines.specs.Script.{script_words};
 
 use lists::items::Items;
 use mem_bdev::Name;
 use std::alloc::{AllocError, Global};
-
-// Where the first such byte stands.
-fn first_of(byte: u8, text: &[u8]) -> Option<usize>
-    ensures { result ≡ position (λ b. b == byte) text.now }
-{
-    text.iter().position(|b| *b == byte)
-}
-
-// What stands before the first such byte, and what stands after it.
-#[tactic(auto, using(crate::proofs::Cuts::cut_none))]
-pub(crate) fn cut_at(byte: u8, text: &[u8]) -> (&[u8], Option<&[u8]>)
-    ensures parts { MatchOption result.1
-        (slice_split (λ b. b == byte) text.now ≡ result.0.now ∷ [])
-        (λ rest. slice_split (λ b. b == byte) text.now ≡ result.0.now ∷ slice_split (λ b. b == byte) rest.now) }
-    ensures shorter { MatchOption result.1 (result.0.now ≡ text.now) (λ rest. length rest.now < length text.now) }
-{
-    match first_of(byte, text) {
-        Some(end) => (&text[..end], Some(&text[end + 1..])),
-        None => (text, None),
-    }
-}
+use text_lines::cut_at;
 
 // Adds a word at the end.
 fn add_word(alloc: Global, words: &mut Items<Name>, word: &[u8]) -> Result<(), AllocError>
@@ -63,7 +42,8 @@ fn join_words(
     attribute: &[u8],
     value: &[u8],
 ) -> Result<Items<Name>, AllocError>
-    ensures { IfOk result (λ words. words ≡ kind.now ∷ folder.now ∷ attribute.now ∷ value.now ∷ []) }
+    ensures { IfOk result (λ words. words ≡ kind.now ∷ folder.now ∷ attribute.now ∷ value.now
+        ∷ []) }
 {
     let mut words = Items::new(alloc);
     add_word(alloc, &mut words, kind)?;

@@ -10,4 +10,7 @@ returns-in-Err-Failed-clause-refused g c =
     (refl, failed_call _ _ _ _ (rw name at c.write.ensures.last) cause.failed)
 
 pub returns-in-Err-Memory-clause-refused : goal.returns-in-Err-Memory-clause-refused
-returns-in-Err-Memory-clause-refused g c = kept_all (told_by (g.F.Files.tells c.args.files.now) (g.F.Files.told c.args.files.now)) (told_by (g.F.Files.tells c.write.new.self) (g.F.Files.told c.write.new.self)) _ _ (rw c.in-Err-Memory.field-0-is at c.in-Err-Memory.ensures.content)
+returns-in-Err-Memory-clause-refused g c =
+    kept_all (told_by (g.F.Files.tells c.args.files.now) (g.F.Files.told c.args.files.now))
+    (told_by (g.F.Files.tells c.write.new.self) (g.F.Files.told c.write.new.self)) _ _
+    (rw c.in-Err-Memory.field-0-is at c.in-Err-Memory.ensures.content)

@@ -3,7 +3,9 @@ use Rattle.nvmet_run.proofs.Puts.{takes_front, takes_both}
 use Rattle.nvmet_run.proofs.report.put_name.Goals as goal
 
 pub returns-in-Ok-clause-content : goal.returns-in-Ok-clause-content
-returns-in-Ok-clause-content g c = takes_both _ _ _ (c.args.before.now ++ c.args.file.now) (10 ∷ []) _ c.in-Ok.ensures.content c.put.ensures.content
+returns-in-Ok-clause-content g c = takes_both _ _ _ (c.args.before.now ++ c.args.file.now) (10 ∷ [])
+    _ c.in-Ok.ensures.content c.put.ensures.content
 
 pub returns-in-Err-clause-content : goal.returns-in-Err-clause-content
-returns-in-Err-clause-content g c = takes_front _ _ (c.args.before.now ++ c.args.file.now) (10 ∷ []) _ c.in-Err.ensures.content
+returns-in-Err-clause-content g c = takes_front _ _ (c.args.before.now ++ c.args.file.now) (10 ∷ [])
+    _ c.in-Err.ensures.content

@@ -1,7 +1,7 @@
 use Rattle.std.proofs.Common.{ℕ, ◌++◌, ap, ◌∙◌, refl}
 use Rattle.mem_bdev.specs.Texts.{Text}
-use Rattle.plan_files.specs.Records.{record_bytes}
-use Rattle.plan_files.specs.declared.records.Kind.TheVariants as kinds
+use Rattle.run_records.specs.Records.{record_bytes}
+use Rattle.run_records.specs.declared.records.Kind.TheVariants as kinds
 use Rattle.seq_target.specs.Kept.{held_bytes}
 use Rattle.seq_target.specs.Model.{Execute}
 use Rattle.nvmet_run.specs.Printing.{head_of}
@@ -16,11 +16,13 @@ returns-clause-makes c =
     let records =
     ap (λ (x : Text). x.bytes) c.execute_into-reply.ensures.appends
     ∙ ap
-    (λ (n : ℕ). old.records.bytes ++ record_bytes (head_of old.places kinds.Execute c.args.number reply n) (held_bytes c.args.target.now))
+    (λ (n : ℕ). old.records.bytes ++ record_bytes (head_of old.places kinds.Execute c.args.number
+    reply n) (held_bytes c.args.target.now))
     c.execute_into-reply.ensures.given in
     let prints =
     prints_more old _ old.places kinds.Execute c.args.number reply _ _
     (adds old _ _ _ _ _ _ _ _ _ records refl refl refl refl refl refl
     c.execute_into-reply.ensures.given c.count.ensures) in
-    makes_by _ _ _ _ _ _ (replied_single (Execute c.args.queue c.args.number c.args.payload.now) reply)
+    makes_by _ _ _ _ _ _ (replied_single (Execute c.args.queue c.args.number c.args.payload.now)
+    reply)
     (makes_one _ _ _ _ _ _ _ _ _ _ c.execute_into-reply.ensures.does prints refl refl refl)

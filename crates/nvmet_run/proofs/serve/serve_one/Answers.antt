@@ -6,4 +6,8 @@ pub control_one-requires-clause-room : goal.control_one-requires-clause-room
 control_one-requires-clause-room c = omega (arith, c.requires.room, head_room c.args.entry.now)
 
 pub returns-then-entry-eq-FABRICS-clause-len : goal.returns-then-entry-eq-FABRICS-clause-len
-returns-then-entry-eq-FABRICS-clause-len c = omega (arith, c.control_one.ensures.len, head_room c.args.entry.now)
+returns-then-entry-eq-FABRICS-clause-len c = omega (
+  arith,
+  c.control_one.ensures.len,
+  head_room c.args.entry.now,
+)

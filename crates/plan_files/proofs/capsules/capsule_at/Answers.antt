@@ -9,9 +9,16 @@ returns-clause-exact c =
     let rest = drop c.args.at c.args.bytes.now in
     let len = length-drop c.args.at c.args.bytes.now in
     let stands : Stands c.args.room rest = record {
-      short = rw (← c.entry_at-sqe.ensures, ← c.data_len-data_len.ensures.value) c.if-data_len-gt-MAX_TRANSFER.false;
-      whole = rw (← c.entry_at-sqe.ensures, ← c.data_len-data_len.ensures.value) (omega (arith, len));
-      roomy = rw (← c.entry_at-sqe.ensures, ← c.room_for.ensures.value) c.if-room-gt-MAX_OUTPUT.false;
+      short = rw (← c.entry_at-sqe.ensures, ← c.data_len-data_len.ensures.value)
+          c.if-data_len-gt-MAX_TRANSFER.false;
+      whole = rw (← c.entry_at-sqe.ensures, ← c.data_len-data_len.ensures.value)
+          (omega (arith, len));
+      roomy = rw (← c.entry_at-sqe.ensures, ← c.room_for.ensures.value)
+          c.if-room-gt-MAX_OUTPUT.false;
     } in
-    let same : capsule_of rest ≡ capsule_in c.args.bytes.now _ = rw (← c.entry_at-sqe.ensures, ← c.data_len-data_len.ensures.value, drop-drop) refl in
+    let same : capsule_of rest ≡ capsule_in c.args.bytes.now _ = rw (
+      ← c.entry_at-sqe.ensures,
+      ← c.data_len-data_len.ensures.value,
+      drop-drop,
+    ) refl in
     next_is c.args.at c.args.room rest stands ∙ ap (λ (x : Capsule). Ok x) same

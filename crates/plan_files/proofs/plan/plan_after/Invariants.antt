@@ -1,5 +1,5 @@
 use Rattle.std.proofs.Common.{◌≡◌, ◌≤◌, length}
-use Rattle.plan_files.specs.Lines.{lines_of}
+use Rattle.text_lines.specs.Lines.{lines_of}
 use Rattle.plan_files.specs.Plans.{no_plan, total_of}
 use Rattle.plan_files.specs.PlanReading.{plan_from}
 use Rattle.plan_files.proofs.plan.plan_after.Given as goal

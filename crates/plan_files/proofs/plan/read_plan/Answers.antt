@@ -14,8 +14,10 @@ returns-clause-fault c = found_fault c.args.bytes.now c.whole_plan.result c.whol
 
 pub returns-clause-faults : goal.returns-clause-faults
 returns-clause-faults c = λ e first.
-    subst (λ (read : Result Plan PlanError). Gives c.whole_plan.result read) (is_fault c.args.bytes.now e first) c.whole_plan.ensures
+    subst (λ (read : Result Plan PlanError). Gives c.whole_plan.result read)
+    (is_fault c.args.bytes.now e first) c.whole_plan.ensures
 
 pub returns-clause-only : goal.returns-clause-only
 returns-clause-only c = λ plan is.
-    subst (λ (read : Result Plan PlanError). Gives c.whole_plan.result read) (plan_is_read c.args.bytes.now plan is) c.whole_plan.ensures
+    subst (λ (read : Result Plan PlanError). Gives c.whole_plan.result read)
+    (plan_is_read c.args.bytes.now plan is) c.whole_plan.ensures

@@ -1,5 +1,5 @@
 use Rattle.std.proofs.Common.{◌≡◌, ◌++◌, length}
-use Rattle.plan_files.specs.Lines.{words_of}
+use Rattle.text_lines.specs.Lines.{words_of}
 use Rattle.script_lines.proofs.words.split_words.Given as goal
 
 abbrev pub invariant-loop-words : goal.invariant-loop-words

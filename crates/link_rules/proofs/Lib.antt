@@ -1,0 +1,10 @@
+pub mod Again
+pub mod Finding
+pub mod Maps
+pub mod Numbers
+pub mod Parts
+pub mod Readers
+pub mod Saying
+pub mod Tells
+pub mod Told
+pub mod Whole

@@ -1,0 +1,5 @@
+pub mod Outside
+pub mod Kept
+pub mod Pieces
+pub mod Stored
+pub mod Adapters

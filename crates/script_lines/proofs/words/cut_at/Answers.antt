@@ -1,8 +1,0 @@
-use Rattle.std.proofs.Common.{sym, ◌==◌}
-use Rattle.std.proofs.lemmas.List.{take_rest}
-use Rattle.script_lines.proofs.Cuts.{cut_some}
-use Rattle.script_lines.proofs.words.cut_at.Goals as goal
-
-pub returns-in-Some-clause-parts : goal.returns-in-Some-clause-parts
-returns-in-Some-clause-parts c =
-    rw take_rest (cut_some (λ b. b == c.args.byte) c.args.text.now c.in-Some.end (sym c.in-Some.ensures)).parts

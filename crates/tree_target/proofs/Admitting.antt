@@ -1,0 +1,326 @@
+-- What a queue sees by positions is what it sees by names, and what it submits gets.
+use Rattle.std.proofs.Common.{◌≡◌, ℕ, zero, suc, ◌≤◌, ◌==◌, ◌&&◌, is_some, IsTrue, Bool, true, false, cond, List, [], ◌∷◌, ◌++◌, length, Option, Some, None, refl, sym, ap, subst, ◌∙◌, slice_get, arith}
+use Rattle.std.specs.List.{find}
+use Rattle.mem_bdev.specs.Blocks.{Blocks}
+use Rattle.mem_bdev.specs.declared.limits.TheConstants.{MAX_TRANSFER}
+use Rattle.sqe_cqe.specs.declared.sqe.Sqe.{Sqe}
+use Rattle.sqe_cqe.specs.declared.codes.TheConstants.{INVALID_OPCODE}
+use Rattle.sqe_cqe.specs.declared.rows.Seen.TheVariants.{Off}
+use Rattle.sqe_cqe.specs.declared.controllers.Bound.{Bound as CodeBound}
+use Rattle.sqe_cqe.specs.declared.controllers.Binding.{Binding as CodeBinding}
+use Rattle.sqe_cqe.specs.declared.controllers.ControllerRow.{ControllerRow}
+use Rattle.sqe_cqe.specs.Answers.{View, view_of}
+use Rattle.sqe_cqe.specs.Sqe.{payload_len, host_len}
+use Rattle.io_commands.specs.declared.jobs.Job.{Job}
+use Rattle.io_commands.specs.declared.jobs.Job.TheVariants.{Read, Write, Zero, Flush}
+use Rattle.io_commands.specs.declared.jobs.Admit.{Admit}
+use Rattle.io_commands.specs.declared.jobs.Admit.TheVariants.{Refused, Run}
+use Rattle.io_commands.specs.Jobs.{disk_of, taken_len, HasData}
+use Rattle.io_commands.specs.Admission.{io_admission, FitsSeen, IsJobOf}
+use Rattle.configfs_rows.specs.declared.namespaces.NamespaceRow.{NamespaceRow}
+use Rattle.configfs_rows.specs.declared.subsystems.SubsystemRow.{SubsystemRow}
+use Rattle.configfs_rows.specs.declared.ports.PortRow.{PortRow}
+use Rattle.configfs_tree.specs.declared.configuration.Configuration.{Configuration}
+use Rattle.configfs_tree.specs.Links.{subsystem_row, port_row, SubsystemPositions, PortPositions}
+use Rattle.configfs_tree.specs.Standing.{IsStanding}
+use Rattle.configfs_tree.specs.Stays.{SubsystemAt, PortAt}
+use Rattle.tree_target.specs.declared.calls.Command.{Command}
+use Rattle.tree_target.specs.declared.calls.Reply.TheVariants as replies
+use Rattle.tree_target.specs.Model.{Submit, Control, Bound, Binding, Target, binding_in, bound_of, bound_at, qid_of, is_command}
+use Rattle.tree_target.specs.Views.{space_in, row_of, on_blocks, on_disk, seen_of, seen_from, subsystem_named, port_named, view_at}
+use Rattle.tree_target.specs.Looked.{tree_answers}
+use Rattle.tree_target.specs.Admission.{Holds, refused, of_admit, of_qid, of_bound, of_binding, admission}
+use Rattle.tree_target.specs.Steps.{reply_of, bytes_of, changed, submitted, bytes_submitted, after_submit, command_of}
+use Rattle.tree_target.specs.Kept.{Kept, HasQueue, IsKept, IsNumbered, IsIdle, IsHolding, LeavesOthers, Fits, FitsOn, HasDataOn, HasDataOf, given_on, given_of, AdmitsOn, AdmitFits, bound_from, bound_in, qid_from, by_qid, by_bound, admission_by, answered, is_of}
+use Rattle.tree_target.specs.Stands.{IsBound, IsBoundAs, AreBound, StandsFor, Simulates}
+use Rattle.tree_target.proofs.HeldList.{own_command, last_found, snoc_other, idle_command, all_snoc, single_snoc, room_for, eqb_apart}
+use Rattle.tree_target.proofs.Simulating.{stands_after}
+
+no_row : (n : NamespaceRow) → None ≡ Some n → ⊥
+no_row n e = cc
+
+-- ---- rows by positions
+row_of_sub : (t : Configuration) (sub : List ℕ) (at : ℕ) → SubsystemPositions t
+    → SubsystemAt t sub at → subsystem_row t at ≡ subsystem_named t sub
+row_of_sub t sub at h x = subst (λ (n : ℕ). subsystem_row t n ≡ subsystem_named t sub) x.at_is
+    (h.of_name sub x.row x.found ∙ sym x.found)
+
+row_of_port : (t : Configuration) (id at : ℕ) → PortPositions t → PortAt t id at
+    → port_row t at ≡ port_named t id
+row_of_port t id at h x = subst (λ (n : ℕ). port_row t n ≡ port_named t id) x.at_is
+    (h.of_id id x.row x.found ∙ sym x.found)
+
+grouped_row : (t : Configuration) (at n : ℕ) (row : NamespaceRow) (s : Option SubsystemRow)
+    → IsStanding t → SubsystemPositions t → subsystem_row t at ≡ s → space_in n s ≡ Some row
+    → row.group ≤ 128
+grouped_row t at n row None h p e f = absurd (no_row row f)
+grouped_row t at n row (Some s) h p e f =
+    ((h.sound.subsystems s.nqn s (p.of_position at s e)).namespaces n row f).group_high
+
+pub grouped_at : (t : Configuration) (at n : ℕ) (row : NamespaceRow) → IsStanding t
+    → SubsystemPositions t → space_in n (subsystem_row t at) ≡ Some row → row.group ≤ 128
+grouped_at t at n row h p e = grouped_row t at n row (subsystem_row t at) h p refl e
+
+-- ---- the view
+seen_along : (t u : Configuration) (cs ds : List ControllerRow) (bs es : List Blocks) (c d : ℕ)
+    (s r : Option SubsystemRow) (p q : Option PortRow) → t ≡ u → cs ≡ ds → bs ≡ es → c ≡ d → s ≡ r
+    → p ≡ q → seen_from t cs bs c s p ≡ seen_from u ds es d r q
+seen_along t u cs ds bs es c d s r p q e1 e2 e3 e4 e5 e6 = rw (e1, e2, e3, e4, e5, e6) refl
+
+same_view : (k : Kept) (t : Target) (port : ℕ) (c : CodeBound) (m : Bound)
+    → SubsystemPositions k.tree → PortPositions k.tree → StandsFor k t → IsBound k.tree port c m
+    → view_at t port m ≡ view_of (tree_answers k.tree k.controllers k.blocks) c
+same_view k t port c m hs hp st b =
+    seen_along t.tree k.tree t.controllers k.controllers t.blocks k.blocks m.controller c.ctrl
+    (subsystem_named t.tree m.subsystem) (subsystem_row k.tree c.sub) (port_named t.tree port)
+    (port_row k.tree c.port) st.tree st.controllers st.blocks b.ctrl
+    (ap (λ (x : Configuration). subsystem_named x m.subsystem) st.tree
+    ∙ sym (row_of_sub k.tree m.subsystem c.sub hs b.sub))
+    (ap (λ (x : Configuration). port_named x port) st.tree
+    ∙ sym (row_of_port k.tree port c.port hp b.at_port))
+
+-- ---- the binding of a queue
+abbrev Both : Configuration → Option CodeBinding → Option Binding → Type 0
+Both t None None = Unit {0}
+Both t None (Some m) = ⊥
+Both t (Some c) None = ⊥
+Both t (Some c) (Some m) = (m.port ≡ c.port) × IsBoundAs t m.port c.bound m.bound
+
+both_at : (t : Configuration) (cs : List CodeBinding) (ms : List Binding) (i : ℕ)
+    → AreBound t cs ms → Both t (slice_get cs i) (slice_get ms i)
+both_at t [] [] i b = tt
+both_at t [] (m ∷ ms) i b = absurd b
+both_at t (c ∷ cs) [] i b = absurd b
+both_at t (c ∷ cs) (m ∷ ms) zero b = (b.0, b.1)
+both_at t (c ∷ cs) (m ∷ ms) (suc i) b = both_at t cs ms i b.2
+
+qids_same : (t : Configuration) (c : Option CodeBinding) (m : Option Binding) → Both t c m
+    → qid_of (bound_of m) ≡ qid_from (bound_from c)
+qids_same t None None b = refl
+qids_same t None (Some m) b = absurd b
+qids_same t (Some c) None b = absurd b
+qids_same t (Some c) (Some m) b = of_bounds c.bound m.bound b.1 where
+  of_bounds : (c : Option CodeBound) (n : Option Bound) → IsBoundAs t m.port c n
+      → qid_of n ≡ qid_from c
+  of_bounds None None x = refl
+  of_bounds None (Some n) x = absurd x
+  of_bounds (Some c) None x = absurd x
+  of_bounds (Some c) (Some n) x = x.qid
+
+qid_in : (t : Configuration) (cs : List CodeBinding) (ms : List Binding) (queue : ℕ)
+    → AreBound t cs ms → qid_of (bound_of (binding_in ms queue)) ≡ qid_from (bound_in cs queue)
+qid_in t cs ms zero b = refl
+qid_in t cs ms (suc q) b = qids_same t (slice_get cs q) (slice_get ms q) (both_at t cs ms q b)
+
+pub qid_is : (k : Kept) (t : Target) (queue : ℕ) → StandsFor k t
+    → qid_of (bound_at t queue) ≡ qid_from (bound_in k.bindings queue)
+qid_is k t queue st = qid_in k.tree k.bindings t.bindings queue st.bindings
+
+-- ---- admission
+module _ (k : Kept) (t : Target) (e : Sqe) (hs : SubsystemPositions k.tree)
+    (hp : PortPositions k.tree) (st : StandsFor k t) where
+  by_qids : (port : ℕ) (c : CodeBound) (m : Bound) (q : ℕ) → IsBound k.tree port c m
+      → of_qid t e port m q ≡ of_admit (by_qid k e c q)
+  by_qids port c m zero b = refl
+  by_qids port c m (suc q) b =
+      ap (λ (v : View). of_admit (io_admission v e)) (same_view k t port c m hs hp st b)
+
+  by_bounds : (port : ℕ) (c : Option CodeBound) (m : Option Bound) → IsBoundAs k.tree port c m
+      → of_bound t e port m ≡ of_admit (by_bound k e c)
+  by_bounds port None None b = refl
+  by_bounds port None (Some m) b = absurd b
+  by_bounds port (Some c) None b = absurd b
+  by_bounds port (Some c) (Some m) b = ap (of_qid t e port m) b.qid ∙ by_qids port c m c.qid b
+
+  by_bindings : (c : Option CodeBinding) (m : Option Binding) → Both k.tree c m
+      → of_binding t e m ≡ of_admit (by_bound k e (bound_from c))
+  by_bindings None None b = refl
+  by_bindings None (Some m) b = absurd b
+  by_bindings (Some c) None b = absurd b
+  by_bindings (Some c) (Some m) b = by_bounds m.port c.bound m.bound b.1
+
+  by_queue : (queue : ℕ) → of_binding t e (binding_in t.bindings queue)
+      ≡ of_admit (by_bound k e (bound_in k.bindings queue))
+  by_queue zero = refl
+  by_queue (suc q) = by_bindings (slice_get k.bindings q) (slice_get t.bindings q)
+      (both_at k.tree k.bindings t.bindings q st.bindings)
+
+  pub admission_is : (queue : ℕ) → admission t queue e ≡ of_admit (admission_by k queue e)
+  unfolding admission admission_by
+  admission_is queue = by_queue queue
+
+-- ---- what is admitted lies on its disk
+taken_data : (job : Job) (shift len : ℕ) → taken_len job shift ≡ len → HasData job shift len
+taken_data (Read disk lba count) shift len e = tt
+taken_data (Write disk lba count) shift len e = sym e
+taken_data (Zero disk lba count) shift len e = tt
+taken_data (Flush disk) shift len e = tt
+
+admits_on : (e : Sqe) (blocks : List Blocks) (job : Job) (i : ℕ) (n : NamespaceRow) (d : Blocks)
+    → slice_get blocks i ≡ Some d → IsJobOf e (row_of i d n) job → AdmitsOn blocks e job
+admits_on e blocks job i n d at j =
+    let here : slice_get blocks (disk_of job) ≡ Some d = ap (slice_get blocks) j.disk ∙ at in
+    record {
+      fits = subst (FitsOn job) (sym here) j.fits;
+      taken = subst (λ (o : Option Blocks). HasDataOn job o (payload_len e)) (sym here)
+          (taken_data job d.shift (payload_len e) j.taken);
+      given = ap (given_on job) here ∙ j.given;
+      short = subst (λ (x : ℕ). x ≤ MAX_TRANSFER) j.given j.fits.given;
+    }
+
+module _ (e : Sqe) (blocks : List Blocks) (job : Job) where
+  fits_blocks : (i : ℕ) (n : NamespaceRow) (d : Option Blocks) → slice_get blocks i ≡ d
+      → FitsSeen e (on_blocks i n d) (Run job) → AdmitsOn blocks e job
+  fits_blocks i n None at f = absurd f
+  fits_blocks i n (Some d) at f = admits_on e blocks job i n d at f
+
+  fits_number : (n : NamespaceRow) (number : Option ℕ)
+      → FitsSeen e (on_disk blocks n number) (Run job) → AdmitsOn blocks e job
+  fits_number n None f = absurd f
+  fits_number n (Some i) f = fits_blocks i n (slice_get blocks i) refl f
+
+  fits_row : (n : NamespaceRow) (number : Option ℕ) (on : Bool)
+      → FitsSeen e (cond on (on_disk blocks n number) Off) (Run job) → AdmitsOn blocks e job
+  fits_row n number true f = fits_number n number f
+  fits_row n number false f = absurd f
+
+  fits_space : (n : Option NamespaceRow) → FitsSeen e (seen_of blocks n) (Run job)
+      → AdmitsOn blocks e job
+  fits_space None f = absurd f
+  fits_space (Some n) f = fits_row n n.disk n.enabled f
+
+pub fits_admit : (e : Sqe) (blocks : List Blocks) (n : Option NamespaceRow) (a : Admit)
+    → FitsSeen e (seen_of blocks n) a → AdmitFits blocks e a
+fits_admit e blocks n (Refused status) f = tt
+fits_admit e blocks n (Run job) f = fits_space e blocks job n f
+
+-- ---- submits
+pub refused_does : (k : Kept) (queue number : ℕ) (e : Sqe) (status : ℕ)
+    → SubsystemPositions k.tree → PortPositions k.tree → admission_by k queue e ≡ Refused status
+    → Simulates k (Submit queue number e)
+    (answered (qid_from (bound_in k.bindings queue)) e.cid status) [] k
+unfolding reply_of bytes_of changed
+refused_does k queue number e status hs hp is t st =
+    let a : admission t queue e ≡ refused status = admission_is k t e hs hp st queue
+    ∙ ap of_admit is in
+    record {
+      lawful = refl;
+      reply_is = ap (submitted t queue e.cid) a
+          ∙ ap (λ (q : ℕ). answered q e.cid status) (qid_is k t queue st);
+      bytes_are = ap bytes_submitted a;
+      stands = stands_after k t t (Submit queue number e)
+          (ap (after_submit t queue number e.cid) a) st;
+    }
+
+abbrev pub with_held : Kept → Command → Kept
+with_held k h = record k { held = k.held ++ h ∷ [] }
+
+pub held_does : (k : Kept) (queue number : ℕ) (e : Sqe) (job : Job) → SubsystemPositions k.tree
+    → PortPositions k.tree → admission_by k queue e ≡ Run job
+    → Simulates k (Submit queue number e) replies.Held []
+    (with_held k (command_of queue number e.cid job))
+unfolding reply_of bytes_of changed
+held_does k queue number e job hs hp is t st =
+    let a : admission t queue e ≡ Holds job = admission_is k t e hs hp st queue ∙ ap of_admit is in
+    let c : Command = command_of queue number e.cid job in
+    record {
+      lawful = refl;
+      reply_is = ap (submitted t queue e.cid) a;
+      bytes_are = ap bytes_submitted a;
+      stands = stands_after (with_held k c) t (record t { held = t.held ++ c ∷ [] })
+          (Submit queue number e) (ap (after_submit t queue number e.cid) a)
+          (record {
+            tree = st.tree;
+            controllers = st.controllers;
+            blocks = st.blocks;
+            bindings = st.bindings;
+            held = ap (λ (x : List Command). x ++ c ∷ []) st.held;
+          });
+    }
+
+numbered : (k : Kept) (queue number cid : ℕ) (job : Job) → HasQueue k queue
+    → IsNumbered (length k.bindings) (command_of queue number cid job)
+numbered k queue number cid job h = record { low = h.low; high = h.high }
+
+pub held_kept : (k : Kept) (room room' queue number cid : ℕ) (e : Sqe) (job : Job) → IsKept k room
+    → room ≤ room' → HasQueue k queue → IsIdle k queue → AdmitsOn k.blocks e job
+    → IsKept (with_held k (command_of queue number cid job)) room'
+held_kept k room room' queue number cid e job s wide h idle a =
+    let c : Command = command_of queue number cid job in
+    let r = s.room in
+    record {
+      holds = record {
+        fit = all_snoc (Fits k.blocks) k.held c s.holds.fit a.fits;
+        numbered = all_snoc (IsNumbered (length k.bindings)) k.held c s.holds.numbered
+            (numbered k queue number cid job h);
+        single = single_snoc k.held c s.holds.single idle;
+      };
+      few_disks = s.few_disks;
+      few_queues = s.few_queues;
+      room = omega (arith, r, wide);
+    }
+
+pub held_room : (k : Kept) (room queue number cid : ℕ) (job : Job) → IsKept k room
+    → HasQueue k queue → IsIdle k queue → suc (length k.held) ≤ room
+held_room k room queue number cid job s h idle =
+    let n = room_for (length k.bindings) k.held (command_of queue number cid job) s.holds.numbered
+    s.holds.single (numbered k queue number cid job h) idle in
+    let few = s.few_queues in
+    let r = s.room in
+    omega (arith, n, few, r)
+
+-- the command is held after its submit
+pub holds_after : (k : Kept) (queue number cid : ℕ) (e : Sqe) (job : Job) → IsIdle k queue
+    → AdmitsOn k.blocks e job
+    → IsHolding (with_held k (command_of queue number cid job)) queue number (payload_len e)
+    (host_len e)
+holds_after k queue number cid e job idle a =
+    let c : Command = command_of queue number cid job in
+    let found : find (is_command queue number) (k.held ++ c ∷ []) ≡ Some c =
+    last_found (is_command queue number) k.held c (idle_command queue number k.held idle)
+    (own_command c) in
+    record {
+      is_held = subst (λ (o : Option Command). IsTrue (is_some o)) (sym found) refl;
+      has_data = subst (λ (o : Option Command). HasDataOf k.blocks o (payload_len e)) (sym found)
+          a.taken;
+      is_given = ap (given_of k.blocks) found ∙ a.given;
+      short = a.short;
+    }
+
+-- and what other queues hold stays
+other_miss : (queue q number cid n : ℕ) (job : Job) → (q ≡ queue → ⊥)
+    → is_command q n (command_of queue number cid job) ≡ false
+other_miss queue q number cid n job ne =
+    ap (λ b. b && (number == n)) (eqb_apart queue q (λ is. ne (sym is)))
+
+pub held_leaves : (k : Kept) (queue number cid : ℕ) (job : Job)
+    → LeavesOthers queue k (with_held k (command_of queue number cid job))
+held_leaves k queue number cid job =
+    let c : Command = command_of queue number cid job in
+    record {
+      queues = refl;
+      bindings = λ q ne. refl;
+      idle = λ q ne h. snoc_other (is_of q) k.held c (eqb_apart queue q (λ is. ne (sym is))) ∙ h;
+      holding = λ q n taken given ne h.
+          let same : find (is_command q n) (k.held ++ c ∷ []) ≡ find (is_command q n) k.held =
+          snoc_other (is_command q n) k.held c (other_miss queue q number cid n job ne) in
+          record {
+            is_held = subst (λ (o : Option Command). IsTrue (is_some o)) (sym same) h.is_held;
+            has_data = subst (λ (o : Option Command). HasDataOf k.blocks o taken) (sym same)
+                h.has_data;
+            is_given = ap (given_of k.blocks) same ∙ h.is_given;
+            short = h.short;
+          };
+    }
+
+-- ---- fabrics commands
+pub control_does : (k : Kept) (queue number : ℕ) (e : Sqe) (payload : List ℕ)
+    → Simulates k (Control queue number e payload)
+    (answered (qid_from (bound_in k.bindings queue)) e.cid INVALID_OPCODE) [] k
+unfolding reply_of bytes_of changed
+control_does k queue number e payload t st = record {
+  lawful = refl;
+  reply_is = ap (λ (q : ℕ). answered q e.cid INVALID_OPCODE) (qid_is k t queue st);
+  bytes_are = refl;
+  stands = stands_after k t t (Control queue number e payload) refl st;
+}

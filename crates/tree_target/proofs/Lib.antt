@@ -1,0 +1,12 @@
+pub mod Starts
+pub mod Taking
+pub mod Replays
+pub mod HeldList
+pub mod Shapes
+pub mod Simulating
+pub mod Admitting
+pub mod Executing
+pub mod Changes
+pub mod Holding
+pub mod Lives
+pub mod Simples

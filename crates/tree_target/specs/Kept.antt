@@ -1,0 +1,194 @@
+-- What the program's target keeps.
+use Rattle.std.specs.Prelude.{◌≡◌, ◌≢◌, ◌≤◌, ◌==◌, ℕ, zero, suc, Bool, false, IsTrue, List, [], ◌∷◌, length, Option, Some, None, is_some, slice_get, find}
+use Rattle.std.specs.List.{AllByRecursion}
+use Rattle.mem_bdev.specs.Blocks.{Blocks}
+use Rattle.mem_bdev.specs.declared.limits.TheConstants.{MAX_TRANSFER}
+use Rattle.sqe_cqe.specs.declared.sqe.Sqe.{Sqe}
+use Rattle.sqe_cqe.specs.declared.codes.TheConstants.{SUCCESS, INVALID_OPCODE}
+use Rattle.sqe_cqe.specs.declared.controllers.Bound.{Bound}
+use Rattle.sqe_cqe.specs.declared.controllers.Binding.{Binding}
+use Rattle.sqe_cqe.specs.declared.controllers.ControllerRow.{ControllerRow}
+use Rattle.sqe_cqe.specs.Answers.{view_of}
+use Rattle.sqe_cqe.specs.Sqe.{payload_len, host_len}
+use Rattle.io_commands.specs.declared.jobs.Job.{Job}
+use Rattle.io_commands.specs.declared.jobs.Admit.{Admit}
+use Rattle.io_commands.specs.declared.jobs.Admit.TheVariants.{Refused, Run}
+use Rattle.io_commands.specs.Jobs.{disk_of, given_len, FitsDisk, HasData}
+use Rattle.io_commands.specs.Admission.{io_admission}
+use Rattle.configfs_rows.specs.declared.limits.TheConstants.{MAX_DISKS}
+use Rattle.configfs_tree.specs.declared.configuration.Configuration.{Configuration}
+use Rattle.tree_target.specs.declared.calls.Command.{Command}
+use Rattle.tree_target.specs.declared.calls.Reply.{Reply}
+use Rattle.tree_target.specs.declared.calls.Reply.TheVariants as replies
+use Rattle.tree_target.specs.declared.start.TheConstants.{MAX_QUEUES}
+use Rattle.tree_target.specs.Model.{is_command}
+use Rattle.tree_target.specs.Steps.{bytes_executed}
+use Rattle.tree_target.specs.Looked.{tree_answers}
+
+-- bindings go by positions here
+pub record Kept : Type 0 where
+  pub tree : Configuration
+  pub controllers : List ControllerRow
+  pub blocks : List Blocks
+  -- of queues 1, 2, ..
+  pub bindings : List Binding
+  pub held : List Command
+
+-- ---- queues
+abbrev pub bound_from : Option Binding → Option Bound
+bound_from None = None
+bound_from (Some b) = b.bound
+
+abbrev pub binding_in : List Binding → ℕ → Option Binding
+binding_in bindings zero = None
+binding_in bindings (suc q) = slice_get bindings q
+
+abbrev pub bound_in : List Binding → ℕ → Option Bound
+bound_in bindings queue = bound_from (binding_in bindings queue)
+
+abbrev pub qid_from : Option Bound → ℕ
+qid_from None = 0
+qid_from (Some b) = b.qid
+
+-- the target has a queue of this number
+pub record HasQueue (k : Kept) (queue : ℕ) : Type 0 where
+  pub low : 1 ≤ queue
+  pub high : queue ≤ length k.bindings
+
+-- ---- admission by positions
+abbrev pub by_qid : Kept → Sqe → Bound → ℕ → Admit
+by_qid k e b zero = Refused INVALID_OPCODE
+by_qid k e b (suc q) = io_admission (view_of (tree_answers k.tree k.controllers k.blocks) b) e
+
+abbrev pub by_bound : Kept → Sqe → Option Bound → Admit
+by_bound k e None = Refused INVALID_OPCODE
+by_bound k e (Some b) = by_qid k e b b.qid
+
+unfoldable pub admission_by : Kept → ℕ → Sqe → Admit
+admission_by k queue e = by_bound k e (bound_in k.bindings queue)
+
+-- ---- held commands
+-- a job lies on its disk
+abbrev pub FitsOn : Job → Option Blocks → Type 0
+FitsOn job None = ⊥
+FitsOn job (Some d) = FitsDisk job d.shift (length d.blocks)
+
+abbrev pub Fits : List Blocks → Command → Type 0
+Fits blocks h = FitsOn h.job (slice_get blocks (disk_of h.job))
+
+-- a command of one of so many queues
+pub record IsNumbered (queues : ℕ) (h : Command) : Type 0 where
+  pub low : 1 ≤ h.queue
+  pub high : h.queue ≤ queues
+
+-- none of these commands is of this queue
+abbrev pub IsApart : ℕ → List Command → Type 0
+IsApart queue held = AllByRecursion (λ (h : Command). (h.queue == queue) ≡ false) held
+
+-- no two of these commands are of one queue
+abbrev pub AreSingle : List Command → Type 0
+AreSingle [] = Unit {0}
+AreSingle (h ∷ held) = IsApart h.queue held × AreSingle held
+
+-- what is held lies on its disk, is of a queue that is there, and is the only command of its queue
+pub record HoldsWell (blocks : List Blocks) (queues : ℕ) (held : List Command) : Type 0 where
+  pub fit : AllByRecursion (Fits blocks) held
+  pub numbered : AllByRecursion (IsNumbered queues) held
+  pub single : AreSingle held
+
+-- what holds of each target, with room for so many held commands
+pub record IsKept (k : Kept) (held_room : ℕ) : Type 0 where
+  pub holds : HoldsWell k.blocks (length k.bindings) k.held
+  pub few_disks : length k.blocks ≤ MAX_DISKS
+  pub few_queues : length k.bindings ≤ MAX_QUEUES
+  pub room : MAX_QUEUES ≤ held_room
+
+abbrev pub is_of : ℕ → Command → Bool
+is_of queue h = h.queue == queue
+
+-- the queue holds no command
+abbrev pub IsIdle : Kept → ℕ → Type 0
+IsIdle k queue = find (is_of queue) k.held ≡ None
+
+abbrev pub command_at : Kept → ℕ → ℕ → Option Command
+command_at k queue number = find (is_command queue number) k.held
+
+-- whether this capsule's command is held
+abbrev pub holds : Kept → ℕ → ℕ → Bool
+holds k queue number = is_some (command_at k queue number)
+
+abbrev pub HasDataOn : Job → Option Blocks → ℕ → Type 0
+HasDataOn job None len = Unit {0}
+HasDataOn job (Some d) len = HasData job d.shift len
+
+abbrev pub HasDataOf : List Blocks → Option Command → ℕ → Type 0
+HasDataOf blocks None len = Unit {0}
+HasDataOf blocks (Some h) len = HasDataOn h.job (slice_get blocks (disk_of h.job)) len
+
+-- data have the length that the held command asks
+abbrev pub HasHeldData : Kept → ℕ → ℕ → ℕ → Type 0
+HasHeldData k queue number len = HasDataOf k.blocks (command_at k queue number) len
+
+abbrev pub given_on : Job → Option Blocks → ℕ
+given_on job None = 0
+given_on job (Some d) = given_len job d.shift
+
+abbrev pub given_of : List Blocks → Option Command → ℕ
+given_of blocks None = 0
+given_of blocks (Some h) = given_on h.job (slice_get blocks (disk_of h.job))
+
+-- how many bytes the held command gives to the host
+abbrev pub held_len : Kept → ℕ → ℕ → ℕ
+held_len k queue number = given_of k.blocks (command_at k queue number)
+
+-- the bytes that it gives
+abbrev pub held_bytes : Kept → ℕ → ℕ → List ℕ
+held_bytes k queue number = bytes_executed k.blocks (command_at k queue number)
+
+-- a completion on the queue with this QID
+abbrev pub answered : ℕ → ℕ → ℕ → Reply
+answered qid cid status = replies.Answered (record {
+  result = 0;
+  sq_head = 0;
+  sq_id = qid;
+  cid = cid;
+  status = status;
+})
+
+abbrev pub reply_to : ℕ → Option Command → Reply
+reply_to qid None = replies.NoEvent
+reply_to qid (Some h) = answered qid h.cid SUCCESS
+
+-- what the execute of the held command replies: success
+abbrev pub held_reply : Kept → ℕ → ℕ → Reply
+held_reply k queue number = reply_to (qid_from (bound_in k.bindings queue))
+    (command_at k queue number)
+
+-- this capsule's command is held. It takes so many bytes of data and gives so many to the host, at
+-- most a transfer
+pub record IsHolding (k : Kept) (queue number taken given : ℕ) : Type 0 where
+  pub is_held : IsTrue (holds k queue number)
+  pub has_data : HasHeldData k queue number taken
+  pub is_given : held_len k queue number ≡ given
+  pub short : given ≤ MAX_TRANSFER
+
+-- ---- what a call of one queue leaves to the others, and one of the editor, whose number is 0, to
+-- all queues
+pub record LeavesOthers (queue : ℕ) (old new : Kept) : Type 0 where
+  pub queues : length new.bindings ≡ length old.bindings
+  pub bindings : (q : ℕ) → q ≢ queue → binding_in new.bindings q ≡ binding_in old.bindings q
+  pub idle : (q : ℕ) → q ≢ queue → IsIdle old q → IsIdle new q
+  pub holding : (q number taken given : ℕ) → q ≢ queue → IsHolding old q number taken given
+      → IsHolding new q number taken given
+
+-- ---- what is admitted
+-- the job lies on its disk, and its data are as long as the entry says, both ways
+pub record AdmitsOn (blocks : List Blocks) (e : Sqe) (job : Job) : Type 0 where
+  pub fits : FitsOn job (slice_get blocks (disk_of job))
+  pub taken : HasDataOn job (slice_get blocks (disk_of job)) (payload_len e)
+  pub given : given_on job (slice_get blocks (disk_of job)) ≡ host_len e
+  pub short : host_len e ≤ MAX_TRANSFER
+
+abbrev pub AdmitFits : List Blocks → Sqe → Admit → Type 0
+AdmitFits blocks e (Refused status) = Unit {0}
+AdmitFits blocks e (Run job) = AdmitsOn blocks e job

@@ -1,0 +1,15 @@
+pub mod Edits
+pub mod Model
+pub mod Start
+pub mod Views
+pub mod Admission
+pub mod Steps
+pub mod Legal
+pub mod Fixed
+pub mod Held
+pub mod Looked
+pub mod Kept
+pub mod Stands
+pub mod Loads
+pub mod Lawful
+pub mod Simple

@@ -1,0 +1,26 @@
+-- What the code sees of a tree, by positions.
+use Rattle.std.specs.Prelude.{List, is_some}
+use Rattle.mem_bdev.specs.Blocks.{Blocks}
+use Rattle.sqe_cqe.specs.Answers.{Answers}
+use Rattle.sqe_cqe.specs.One.{plain_offers}
+use Rattle.sqe_cqe.specs.Ready.{ready_in}
+use Rattle.sqe_cqe.specs.declared.controllers.ControllerRow.{ControllerRow}
+use Rattle.configfs_tree.specs.declared.configuration.Configuration.{Configuration}
+use Rattle.configfs_tree.specs.Links.{subsystem_row, port_row}
+use Rattle.tree_target.specs.Views.{seen_of, space_in, group_state, group_in}
+
+abbrev pub tree_answers : Configuration → List ControllerRow → List Blocks → Answers
+tree_answers t controllers blocks = record {
+  ready = λ c. ready_in controllers c;
+  ns = λ s n. seen_of blocks (space_in n (subsystem_row t s));
+  ana = λ p g. group_state (group_in g (port_row t p));
+  group_made = λ p g. is_some (group_in g (port_row t p));
+  ns_stamp = λ s n. 0;
+  ana_stamp = λ s p. 0;
+  ana_count = t.settings.ana_count;
+  serial = 0;
+  bars = λ c s n o. 0;
+  offers = plain_offers;
+  marks = λ s n. 0;
+  group_count = λ p s g. t.settings.ana_count;
+}

@@ -1,0 +1,122 @@
+// The calls of queues.
+ghost use Rattle.std.specs.Prelude.{◌≡◌, ◌≢◌, ◌+◌, [], IsTrue, length};
+ghost use Rattle.mem_bdev.specs.Texts.{HasRoom, appended};
+ghost use Rattle.sqe_cqe.specs.Sqe.{payload_len, host_len};
+ghost use Rattle.tree_target.specs.Kept.{HasQueue, IsIdle, IsHolding, LeavesOthers, HasHeldData, admission_by, bound_in, held_bytes, held_len, held_reply, holds, AdmitFits};
+ghost use Rattle.tree_target.specs.Model.{Submit, Execute, Poll, Control};
+ghost use Rattle.tree_target.specs.Stands.{Simulates};
+
+use crate::calls::{Command, Reply};
+use crate::commands::{take_command, work};
+use crate::look::TreeLook;
+use crate::target::{Target, complete};
+use configfs_tree::{port_positions, subsystem_positions};
+use io_commands::{Admit, admit_io};
+use mem_bdev::Buffer;
+use sqe_cqe::{Bound, INVALID_OPCODE, SUCCESS, Sqe};
+
+impl Target {
+    // What a queue is connected to.
+    fn bound(&self, queue: u32) -> Option<Bound>
+        ensures { result ≡ bound_in self.now.bindings queue }
+    {
+        if queue == 0 {
+            return None;
+        }
+        match self.bindings.get(queue as usize - 1) {
+            None => None,
+            Some(binding) => binding.bound,
+        }
+    }
+
+    // What a command gets.
+    #[tactic(auto, unfolding(crate::specs::Kept::admission_by))]
+    fn admit(&self, queue: u32, e: &Sqe) -> Admit
+        ensures value { result ≡ admission_by self.now queue e.now }
+        ensures fits { AdmitFits self.now.blocks e.now result }
+    {
+        let Some(bound) = self.bound(queue) else {
+            return Admit::Refused(INVALID_OPCODE);
+        };
+        if bound.qid == 0 {
+            return Admit::Refused(INVALID_OPCODE);
+        }
+        let mut look = TreeLook::new(&self.tree, &self.controllers, &self.disks);
+        admit_io(&bound, e, &mut look)
+    }
+
+    /// Submits a command of a queue: it is answered with the status of the first check that fails,
+    /// or held. `number` is the capsule's number in its file, from 0. The queue's last command was
+    /// executed. A command that is held asks for as many bytes of data, both ways, as its entry
+    /// names. Takes no memory.
+    pub fn submit(&mut self, queue: u32, number: u32, e: &Sqe) -> Reply
+        requires queue { HasQueue self.old queue }
+        requires idle { IsIdle self.old queue }
+        ensures does { Simulates self.old (Submit queue number e.now) result [] self.new }
+        ensures held { result ≡ Reply.Held →
+            IsHolding self.new queue number (payload_len e.now) (host_len e.now) }
+        ensures answered { result ≢ Reply.Held → IsIdle self.new queue }
+        ensures others { LeavesOthers queue self.old self.new }
+    {
+        self.tree.certify();
+        subsystem_positions(&self.tree);
+        port_positions(&self.tree);
+        match self.admit(queue, e) {
+            Admit::Refused(status) => complete(self.qid(queue), e.cid, status),
+            Admit::Run(job) => {
+                let command = Command {
+                    queue,
+                    number,
+                    cid: e.cid,
+                    job,
+                };
+                let Ok(()) = self.held.push(command) else {
+                    unreachable!();
+                };
+                Reply::Held
+            }
+        }
+    }
+
+    /// Executes the command that is held, with its capsule's data. A Read's bytes are appended to
+    /// `to`, which has room for them, straight from the disk. Takes no memory.
+    pub fn execute(&mut self, queue: u32, number: u32, payload: &[u8], to: &mut Buffer) -> Reply
+        requires held { IsTrue (holds self.old queue number) }
+        requires data { HasHeldData self.old queue number (length payload.now) }
+        requires room { HasRoom to.old (held_len self.old queue number) }
+        ensures does { Simulates self.old (Execute queue number payload.now) result
+            (held_bytes self.old queue number) self.new }
+        ensures reply { result ≡ held_reply self.old queue number }
+        ensures appends { to.new ≡ appended to.old (held_bytes self.old queue number) }
+        ensures len { length to.new.bytes ≡ length to.old.bytes + held_len self.old queue number }
+        ensures idle { IsIdle self.new queue }
+        ensures others { LeavesOthers queue self.old self.new }
+    {
+        let qid = self.qid(queue);
+        let Some(command) = take_command(&mut self.held, queue, number) else {
+            unreachable!();
+        };
+        work(&mut self.disks, &command.job, payload, to);
+        complete(qid, command.cid, SUCCESS)
+    }
+
+    /// Polls the admin queue of a controller: no event comes yet. Takes no memory.
+    pub fn poll(&mut self, queue: u32) -> Reply
+        ensures does { Simulates self.old (Poll queue) result [] self.new }
+        ensures same { self.new ≡ self.old }
+    {
+        let _queue = queue;
+        Reply::NoEvent
+    }
+
+    /// A fabrics command: no queue can be connected yet, so it is refused. Takes no memory.
+    pub fn control(&mut self, queue: u32, number: u32, e: &Sqe, payload: &[u8]) -> Reply
+        ensures does { Simulates self.old (Control queue number e.now payload.now) result []
+            self.new }
+        ensures idle { IsIdle self.old queue → IsIdle self.new queue }
+        ensures others { LeavesOthers queue self.old self.new }
+    {
+        let _input = (number, payload.len());
+        complete(self.qid(queue), e.cid, INVALID_OPCODE)
+    }
+}

@@ -1,0 +1,264 @@
+// A configuration is loaded, edited and drained while a queue holds commands of it.
+use super::*;
+use configfs_tree::{Attr, Errno, Folder, FolderEdit, Nqn, may_be_disks};
+use link_rules::{Edit, LinkEdit};
+use mem_bdev::{Buffer, DiskLine, Name};
+use sqe_cqe::{Bound, Controllers, Sqe, data_len, read_sqe};
+use std::alloc::Global;
+use std::process::Abort;
+use std::test::Fail;
+
+fn name(rt: &impl Abort) -> Nqn {
+    Nqn::read(b"s").expect(rt, "an NQN")
+}
+
+fn line(rt: &impl Abort, alloc: Global) -> DiskLine {
+    let path = Name::copied(alloc, b"/dev/ram0").expect(rt, "memory");
+    DiskLine {
+        path,
+        shift: 9,
+        blocks: 16,
+    }
+}
+
+fn mkdir(folder: Folder) -> Edit {
+    Edit::Folder(FolderEdit::Mkdir(folder))
+}
+
+fn set(rt: &impl Abort, alloc: Global, folder: Folder, attr: Attr, value: &[u8]) -> Edit {
+    let value = Name::copied(alloc, value).expect(rt, "memory");
+    Edit::Folder(FolderEdit::Set(folder, attr, value))
+}
+
+fn set_space(rt: &impl Abort, alloc: Global, attr: Attr, value: &[u8]) -> Edit {
+    set(rt, alloc, Folder::Namespace(name(rt), 1), attr, value)
+}
+
+// Makes an edit, of which the reply must be this one.
+fn edit(rt: &impl Abort, alloc: Global, target: &mut Target, e: &Edit, reply: Reply) {
+    assert!(rt; e.is_fitting());
+    let got = target.edit(alloc, 1, e);
+    assert_eq!(rt; got.expect(rt, "memory"), reply);
+}
+
+// Ends the drain of namespace 1, which may end.
+fn end_drain(rt: &impl Abort, target: &mut Target) {
+    let sub = name(rt);
+    assert!(rt; target.may_end(&sub, 1));
+    assert_eq!(rt; target.end_drain(1, &sub, 1), Reply::Ended);
+}
+
+// A target over one disk, with one queue and no configuration.
+fn empty(rt: &impl Abort, alloc: Global) -> Target {
+    let line = line(rt, alloc);
+    assert!(rt; line.is_shape());
+    let lines = [line];
+    assert!(rt; may_be_disks(&lines));
+    let loaded = Target::load(alloc, &lines, &[], &[1]);
+    loaded.expect(rt, "loaded")
+}
+
+#[test]
+fn edits_are_made_or_refused(rt: HostRuntime) -> Result<(), Fail> {
+    let alloc = rt.alloc();
+    let mut target = empty(&rt, alloc);
+    let sub = mkdir(Folder::Subsystem(name(&rt)));
+    let space = mkdir(Folder::Namespace(name(&rt), 1));
+    let path = set_space(&rt, alloc, Attr::DevicePath, b"/dev/ram0");
+    let on = set_space(&rt, alloc, Attr::Enable, b"1");
+    let off = set_space(&rt, alloc, Attr::Enable, b"0");
+    edit(&rt, alloc, &mut target, &space, Reply::Errno(Errno::ENOENT));
+    edit(&rt, alloc, &mut target, &sub, Reply::Accepted);
+    edit(&rt, alloc, &mut target, &sub, Reply::Errno(Errno::EEXIST));
+    edit(&rt, alloc, &mut target, &space, Reply::Accepted);
+    edit(&rt, alloc, &mut target, &on, Reply::Errno(Errno::ENOENT));
+    edit(&rt, alloc, &mut target, &path, Reply::Accepted);
+    assert!(rt; !target.drains(&off));
+    edit(&rt, alloc, &mut target, &on, Reply::Accepted);
+    assert!(rt; target.drains(&off));
+    assert!(rt; !target.drains(&on));
+    edit(&rt, alloc, &mut target, &off, Reply::Accepted);
+    assert!(rt; !target.drains(&off));
+    edit(&rt, alloc, &mut target, &on, Reply::Errno(Errno::EBUSY));
+    let end = Call::DrainEnd { line: 1 };
+    assert!(rt; !target.lawful(&end, Some(&on)));
+    assert!(rt; target.lawful(&end, Some(&off)));
+    end_drain(&rt, &mut target);
+    assert!(rt; !target.lawful(&end, Some(&off)));
+    edit(&rt, alloc, &mut target, &on, Reply::Accepted);
+    Ok(())
+}
+
+#[test]
+fn links_are_edits(rt: HostRuntime) -> Result<(), Fail> {
+    let alloc = rt.alloc();
+    let mut target = empty(&rt, alloc);
+    let link = Edit::Link(LinkEdit::LinkSubsystem(1, name(&rt)));
+    let trtype = set(&rt, alloc, Folder::Port(1), Attr::Trtype, b"loop");
+    edit(
+        &rt,
+        alloc,
+        &mut target,
+        &mkdir(Folder::Subsystem(name(&rt))),
+        Reply::Accepted,
+    );
+    edit(&rt, alloc, &mut target, &link, Reply::Errno(Errno::ENOENT));
+    edit(
+        &rt,
+        alloc,
+        &mut target,
+        &mkdir(Folder::Port(1)),
+        Reply::Accepted,
+    );
+    edit(&rt, alloc, &mut target, &link, Reply::Errno(Errno::EINVAL));
+    edit(&rt, alloc, &mut target, &trtype, Reply::Accepted);
+    edit(&rt, alloc, &mut target, &link, Reply::Accepted);
+    edit(&rt, alloc, &mut target, &link, Reply::Errno(Errno::EEXIST));
+    Ok(())
+}
+
+#[test]
+fn the_first_refused_edit_of_a_configuration_is_named(rt: HostRuntime) -> Result<(), Fail> {
+    let alloc = rt.alloc();
+    let line = line(&rt, alloc);
+    assert!(rt; line.is_shape());
+    let lines = [line];
+    assert!(rt; may_be_disks(&lines));
+    let sub = mkdir(Folder::Subsystem(name(&rt)));
+    let again = mkdir(Folder::Subsystem(name(&rt)));
+    let port = mkdir(Folder::Port(1));
+    assert!(rt; sub.is_fitting());
+    assert!(rt; again.is_fitting());
+    assert!(rt; port.is_fitting());
+    match Target::load(alloc, &lines, &[port, sub, again], &[1]) {
+        Err(LoadError::Refused { edit, errno }) => {
+            assert_eq!(rt; edit, 3);
+            assert_eq!(rt; errno, Errno::EEXIST);
+        }
+        _ => assert!(rt; false, "loaded"),
+    }
+    Ok(())
+}
+
+fn status_is(rt: &impl Abort, reply: &Reply, cid: u16, sq_id: u16, status: u16) {
+    match reply {
+        Reply::Answered(cqe) => {
+            assert_eq!(rt; cqe.cid, cid);
+            assert_eq!(rt; cqe.sq_id, sq_id);
+            assert_eq!(rt; cqe.status, status);
+        }
+        _ => assert!(rt; false, "no completion"),
+    }
+}
+
+// A command on the first block of namespace 1.
+fn entry(opcode: u8, cid: u16) -> Sqe {
+    let mut e = read_sqe(&[0; 64]);
+    e.opcode = opcode;
+    e.flags = 0x40;
+    e.cid = cid;
+    e.nsid = 1;
+    e.sgl_len = 512;
+    e
+}
+
+#[test]
+fn a_queue_that_is_not_connected_is_refused(rt: HostRuntime) -> Result<(), Fail> {
+    let alloc = rt.alloc();
+    let mut target = empty(&rt, alloc);
+    assert_eq!(rt; target.queues(), 1);
+    assert_eq!(rt; target.binding(1).port, 1);
+    assert!(rt; target.is_idle(1));
+    let reply = target.submit(1, 0, &entry(0x01, 7));
+    status_is(&rt, &reply, 7, 0, 0x8002);
+    let reply = target.control(1, 1, &entry(0x7f, 8), &[]);
+    status_is(&rt, &reply, 8, 0, 0x8002);
+    assert_eq!(rt; target.poll(1), Reply::NoEvent);
+    assert!(rt;
+        !target.lawful(
+            &Call::Execute {
+                queue: 1,
+                number: 0
+            },
+            None
+        )
+    );
+    Ok(())
+}
+
+// Connects queues 1 and 2 as I/O queues of controller 1, at the first positions.
+fn connect(rt: &impl Abort, alloc: Global, target: &mut Target) {
+    let bound = Bound {
+        ctrl: 1,
+        qid: 1,
+        sub: 0,
+        port: 0,
+    };
+    target.controllers = Controllers::simple(alloc).expect(rt, "memory");
+    assert!(rt; target.bindings.len() == 2);
+    target.bindings[0].bound = Some(bound);
+    target.bindings[1].bound = Some(bound);
+}
+
+// A target whose namespace 1 is enabled on the disk, with two connected I/O queues.
+fn configured(rt: &impl Abort, alloc: Global) -> Target {
+    let line = line(rt, alloc);
+    assert!(rt; line.is_shape());
+    let lines = [line];
+    assert!(rt; may_be_disks(&lines));
+    let edits = [
+        mkdir(Folder::Subsystem(name(rt))),
+        mkdir(Folder::Namespace(name(rt), 1)),
+        mkdir(Folder::Port(1)),
+        set_space(rt, alloc, Attr::DevicePath, b"/dev/ram0"),
+        set_space(rt, alloc, Attr::Enable, b"1"),
+    ];
+    let loaded = Target::load(alloc, &lines, &[], &[1, 1]);
+    let mut target = loaded.expect(rt, "loaded");
+    for e in &edits {
+        edit(rt, alloc, &mut target, e, Reply::Accepted);
+    }
+    connect(rt, alloc, &mut target);
+    target
+}
+
+// Submits a capsule's command, which must be held.
+fn hold(rt: &impl Abort, target: &mut Target, queue: u32, number: u32, e: &Sqe) {
+    assert!(rt; queue >= 1 && queue as usize <= target.queues());
+    assert!(rt; target.is_idle(queue));
+    assert_eq!(rt; target.submit(queue, number, e), Reply::Held);
+}
+
+// Executes the first capsule's held command, which must succeed and give these bytes.
+fn finish(rt: &impl Abort, alloc: Global, target: &mut Target, queue: u32, cid: u16, read: &[u8]) {
+    assert!(rt; target.lawful(&Call::Execute { queue, number: 0 }, None));
+    assert!(rt; target.is_held(queue, 0));
+    assert!(rt; target.takes(queue, 0, 512));
+    let room = target.held_len(queue, 0) as usize;
+    let mut to = Buffer::with_room(alloc, room).expect(rt, "memory");
+    let reply = target.execute(queue, 0, &[7; 512], &mut to);
+    status_is(rt, &reply, cid, 1, 0);
+    assert_eq!(rt; to.bytes(), read);
+}
+
+#[test]
+fn a_drain_ends_after_the_last_held_command(rt: HostRuntime) -> Result<(), Fail> {
+    let alloc = rt.alloc();
+    let mut target = configured(&rt, alloc);
+    let off = set_space(&rt, alloc, Attr::Enable, b"0");
+    let end = Call::DrainEnd { line: 1 };
+    hold(&rt, &mut target, 1, 0, &entry(0x01, 3));
+    hold(&rt, &mut target, 2, 0, &entry(0x02, 4));
+    edit(&rt, alloc, &mut target, &off, Reply::Accepted);
+    assert!(rt; !target.lawful(&end, Some(&off)));
+    finish(&rt, alloc, &mut target, 1, 3, &[]);
+    assert!(rt; !target.lawful(&end, Some(&off)));
+    assert!(rt; target.is_idle(1));
+    assert!(rt; target.queues() == 2);
+    let reply = target.submit(1, 1, &entry(0x02, 5));
+    status_is(&rt, &reply, 5, 1, 0x0600);
+    finish(&rt, alloc, &mut target, 2, 4, &[7; 512]);
+    assert!(rt; target.lawful(&end, Some(&off)));
+    end_drain(&rt, &mut target);
+    Ok(())
+}
