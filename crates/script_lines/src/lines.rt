@@ -12,6 +12,7 @@ use mem_bdev::Name;
 use plan_files::What;
 use std::alloc::{AllocError, AllocFailed, Global};
 use text_lines::{cut_line, is_passed_over};
+use thiserror::Error;
 
 /// How many lines a script has at most, those that are passed over among them.
 pub const MAX_LINES: u32 = 65_536;
@@ -30,14 +31,17 @@ pub struct Line {
 }
 
 /// Why a script was not read.
-#[derive(Clone, Copy, Debug, PartialEq, Eq)]
+#[derive(Clone, Copy, Debug, PartialEq, Eq, Error)]
 pub enum LineError {
     /// The first line that isn't passed over and has more than 1,024 bytes, or a byte outside 20h to 7Eh. Its number
     /// counts from 1.
+    #[error("line {line} is bad")]
     BadLine { line: u32 },
     /// The script has more than 65,536 lines, and none of these is bad; the count is 65,537.
+    #[error("the limit on {what} is passed: {count}")]
     TooLong { what: What, count: u64 },
     /// No memory for the lines.
+    #[error("out of memory")]
     Memory,
 }
 

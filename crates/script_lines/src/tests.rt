@@ -89,3 +89,13 @@ fn limits_at_both_sides(rt: HostRuntime) -> Result<(), Fail> {
     }
     Ok(())
 }
+
+#[test]
+fn errors_in_print(rt: HostRuntime) -> Result<(), Fail> {
+    let alloc = rt.alloc();
+    let bad = format!(in alloc; "{}", LineError::BadLine { line: 3 })?;
+    assert!(rt; bad.as_str() == "line 3 is bad");
+    let memory = format!(in alloc; "{}", LineError::Memory)?;
+    assert!(rt; memory.as_str() == "out of memory");
+    Ok(())
+}

@@ -20,7 +20,7 @@ use Rattle.configfs_tree.specs.declared.configuration.Configuration.{Configurati
 use Rattle.tree_target.specs.declared.calls.Command.{Command}
 use Rattle.tree_target.specs.declared.calls.Reply.{Reply}
 use Rattle.tree_target.specs.declared.calls.Reply.TheVariants as replies
-use Rattle.tree_target.specs.declared.start.TheConstants.{MAX_QUEUES}
+use Rattle.plan_files.specs.declared.plan.TheConstants.{MAX_QUEUES}
 use Rattle.tree_target.specs.Model.{is_command}
 use Rattle.tree_target.specs.Steps.{bytes_executed}
 use Rattle.tree_target.specs.Looked.{tree_answers}

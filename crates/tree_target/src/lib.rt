@@ -28,5 +28,6 @@ pub use law::{
     plain_at_desk, queues_leave_desk, simple_stands, unpublished_leave_fixed,
 };
 pub use look::TreeLook;
-pub use start::{LoadError, MAX_QUEUES};
+pub use plan_files::MAX_QUEUES;
+pub use start::LoadError;
 pub use target::Target;

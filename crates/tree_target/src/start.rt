@@ -10,9 +10,6 @@ use mem_bdev::{Disk, DiskLine};
 use sqe_cqe::Binding;
 use std::alloc::{AllocError, Global};
 
-/// How many queues a target has at the most.
-pub const MAX_QUEUES: usize = 31;
-
 /// Why a configuration wasn't loaded: its first refused edit, numbered from 1, or want of memory.
 #[derive(Clone, Copy, Debug, PartialEq, Eq)]
 pub enum LoadError {

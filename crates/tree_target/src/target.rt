@@ -2,7 +2,7 @@ ghost use Rattle.std.specs.Prelude.{◌≡◌, ◌≤◌, ℕ, IsTrue, IfOk, Som
 ghost use Rattle.configfs_tree.specs.Start.{are_disks};
 ghost use Rattle.mem_bdev.specs.Blocks.{IsShape};
 ghost use Rattle.mem_bdev.specs.declared.limits.TheConstants.{MAX_TRANSFER};
-ghost use Rattle.tree_target.specs.declared.start.TheConstants.{MAX_QUEUES};
+ghost use Rattle.plan_files.specs.declared.plan.TheConstants.{MAX_QUEUES};
 ghost use Rattle.tree_target.specs.Edits.{is_well_formed};
 ghost use Rattle.tree_target.specs.Loads.{LoadsTarget, start_of, loaded};
 ghost use Rattle.tree_target.specs.Kept.{HasHeldData, HasQueue, IsIdle, binding_in, bound_in, held_len, held_reply, qid_from};
@@ -11,10 +11,11 @@ ghost use Rattle.tree_target.specs.Kept.{answered};
 
 use crate::calls::{Command, Reply};
 use crate::commands::{command_of_queue, find_command, given, takes};
-use crate::start::{LoadError, MAX_QUEUES, apply_edits, blank_disks, unconnected};
+use crate::start::{LoadError, apply_edits, blank_disks, unconnected};
 use configfs_tree::Tree;
 use link_rules::Edit;
 use mem_bdev::{Disk, DiskLine};
+use plan_files::MAX_QUEUES;
 use sqe_cqe::{Binding, Controllers, Cqe, SUCCESS};
 use std::alloc::{AllocError, Global};
 use std::marker::Model;
