@@ -1,0 +1,6 @@
+pub mod Eight
+pub mod Handing
+pub mod Living
+pub mod Removing
+pub mod Submitting
+pub mod Taking

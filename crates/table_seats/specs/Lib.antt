@@ -1,0 +1,4 @@
+pub mod EndingMeans
+pub mod Lives
+pub mod Resting
+pub mod Taking
