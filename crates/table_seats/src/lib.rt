@@ -6,4 +6,5 @@ pub mod ground;
 pub mod lives;
 pub mod meaning;
 pub mod parts;
+pub mod publishing;
 pub mod sections;

@@ -8,7 +8,7 @@ ghost use Rattle.table_rule.specs.Plays.{MayGet};
 ghost use Rattle.table_seats.specs.Resting.{Rests};
 
 use crate::ground::Table;
-use ref_state::kinds::{SUBMIT, Tag};
+use ref_state::kinds::{BARE, SUBMIT, Tag};
 use ref_state::limits::LIVE;
 use std::sync::ledger::Ledger;
 use table_rule::ticks::Steps;
@@ -145,4 +145,32 @@ pub fn finish<L: Ledger>(table: &Table, seat: &mut Seat<u64>, steps: &mut Steps<
     let before = put_hold(table, seat, steps);
     table.leave_section(seat, steps);
     before
+}
+
+/// A bare call in a section of its own: its place and serial, and the word of row 0 there.
+pub fn bare<L: Ledger>(
+    table: &Table,
+    seat: &mut Seat<u64>,
+    number: u32,
+    steps: &mut Steps<L>,
+) -> (u32, u32, u64)
+    requires own { seat.old.base.table_id ≡ table.now.table.shared.table_id }
+    requires rows { 0 < table.now.table.shared.key.rows }
+    requires rests { Rests seat.old.number seat.old.base.me }
+    requires left { 0 < seat.old.left }
+    ensures own { seat.new.base.table_id ≡ seat.old.base.table_id }
+    ensures number { seat.new.number ≡ seat.old.number }
+    ensures rests { Rests seat.new.number seat.new.base.me }
+    ensures left { seat.new.left + 1 ≡ seat.old.left }
+{
+    let call = Tag {
+        kind: BARE,
+        caller: seat.number,
+        number,
+    };
+    table.enter_section(seat, steps);
+    let (place, serial) = table.draw_place(seat, call, steps);
+    let row = table.load_row(seat, 0, steps);
+    table.leave_section(seat, steps);
+    (place, serial, row)
 }
