@@ -7,4 +7,6 @@ mod drain_tests;
 #[cfg(test)]
 mod execute_tests;
 #[cfg(test)]
+mod gather_tests;
+#[cfg(test)]
 mod parts_tests;
