@@ -1,23 +1,19 @@
 -- What the editor keeps through a drain.
-use Rattle.std.proofs.Common.{◌≡◌, ◌≢◌, ℕ, zero, suc, ◌+◌, ◌%◌, ◌<◌, ◌==◌, Bool, true, false, if◌then◌else◌, cond, List, [], ◌∷◌, ◌++◌, Option, Some, None, length, get_or, set, replicate, sym, refl, ap, ◌∙◌, subst, arith, ne_eqb, eq-eqb, ◌&&◌}
-use Rattle.ref_state.specs.declared.kinds.Tag.{Tag}
+use Rattle.std.proofs.Common.{◌≡◌, ℕ, zero, suc, ◌+◌, ◌%◌, ◌<◌, ◌==◌, cond, List, [], ◌∷◌, ◌++◌, Option, Some, None, get_or, replicate, sym, refl, ap, ◌∙◌, subst, arith}
 use Rattle.ref_state.specs.declared.state.Count.{Count}
 use Rattle.ref_state.specs.declared.state.Editor.{Editor}
-use Rattle.ref_state.specs.declared.state.Mark.TheVariants.{Passed, Unseen, Noted}
+use Rattle.ref_state.specs.declared.state.Mark.TheVariants.{Passed}
 use Rattle.ref_state.specs.declared.state.Phase.TheVariants as phase
-use Rattle.ref_state.specs.State.{AllPassed, drain, mark, looked, total, no_count, word_of, bias, word_end}
-use Rattle.ref_state.specs.Steps.{looked_at}
-use Rattle.table_rule.specs.declared.rule.Plan.{Plan}
+use Rattle.ref_state.specs.State.{AllPassed, drain, mark, total, word_of, bias, word_end}
 use Rattle.table_rule.specs.declared.rule.Told.{Told}
-use Rattle.table_rule.specs.Meant.{target, IsSteady, of_pair, on}
-use Rattle.table_rule.specs.Shown.{claims_of, extended, opened_editor}
-use Rattle.table_rule.specs.Plays.{with_life, killed, counted, folded, Published, published_notes, spare_of, Folds, zero_notes, Ended, ended}
+use Rattle.table_rule.specs.Meant.{target}
+use Rattle.table_rule.specs.Shown.{claims_of}
+use Rattle.table_rule.specs.Plays.{with_life, Published, published_notes, Folds, Ended, ended}
 use Rattle.table_rule.proofs.Claiming.{extended_total}
 use Rattle.table_rule.proofs.Histories.{target_snoc}
 use Rattle.small_target.specs.declared.Small.{Small}
-use Rattle.small_target.specs.Small.{small_next, edited}
-use Rattle.table_seats.specs.EndingMeans.{ending_means, ending_lawful, small_plan}
-use Rattle.table_seats.specs.Lives.{Edits, edit_of, started, hidden, passed, killed_life, counted_life}
+use Rattle.table_seats.specs.EndingMeans.{ending_means}
+use Rattle.table_seats.specs.Lives.{Edits, edit_of, started, hidden, passed, killed_life}
 
 pub edits_move : (n k : Editor) (s d : ℕ) (v w : Told) → Edits n s d v → w.notes ≡ k → w.seats ≡ v.seats → w.view.number ≡ v.view.number → w.claims ≡ v.claims → w.known ≡ v.known → Edits k s d w
 edits_move n k s d v w e notes seats number claims known = record {
@@ -37,17 +33,6 @@ three_passed (suc (suc (suc j))) h = absurd (omega arith)
 -- every seat has passed
 pub all_passed : (n : Editor) (s d : ℕ) (v : Told) → Edits n s d v → n.marks ≡ replicate 3 Passed → AllPassed v.seats v.notes.marks
 all_passed n s d v e is = λ j near. ap (λ ms. mark ms j) (ap (λ (k : Editor). k.marks) e.notes_are ∙ is) ∙ three_passed j (subst (λ k. j < k) e.seats near)
-
-even_look : (w : ℕ) → w % 2 ≡ 0 → looked Unseen w ≡ Passed
-even_look w e = ap (λ b. if b then Noted w else Passed) (ne_eqb (w % 2) 1 (omega arith))
-
--- three looks that found even words, after the kill
-pub looks_pass : (p x y z : ℕ) → x % 2 ≡ 0 → y % 2 ≡ 0 → z % 2 ≡ 0
-    → looked_at 2 z (looked_at 1 y (looked_at 0 x (with_life 0 (killed 3 0 (hidden p)) (hidden p)))) ≡ passed p killed_life
-looks_pass p x y z ex ey ez = λ i. record (hidden p) {
-  marks = even_look x ex i ∷ (even_look y ey i ∷ (even_look z ez i ∷ []));
-  drains = record killed_life { marks = even_look x ex i ∷ (even_look y ey i ∷ (even_look z ez i ∷ [])) } ∷ [];
-}
 
 -- ## Hiding the disk
 
@@ -74,9 +59,6 @@ live_disk v n s d e live disks one k near = only_disk v n s d e live k (omega ar
 abbrev pub looked_life : List (Option Count) → Editor → Editor
 looked_life l n = record n { drains = record killed_life { looked = l } ∷ [] }
 
-pub life_passed : (n : Editor) (s d : ℕ) (v : Told) → Edits n s d v → (drain n 0).marks ≡ replicate 3 Passed → AllPassed v.seats (drain v.notes 0).marks
-life_passed n s d v e is = λ j near. ap (λ ms. mark ms j) (ap (λ (k : Editor). (drain k 0).marks) e.notes_are ∙ is) ∙ three_passed j (subst (λ k. j < k) e.seats near)
-
 all_looked : (x y z : Count) (o : ℕ) → o < 3 → (w : Count) × (get_or (Some x ∷ (Some y ∷ (Some z ∷ []))) o None ≡ Some w)
 all_looked x y z zero h = (x, refl)
 all_looked x y z (suc zero) h = (y, refl)
@@ -94,9 +76,6 @@ pub delta_is : (x y z : ℕ) → ((((x + y) % 18446744073709551616 + z) % 184467
 delta_is x y z = omega arith
 
 -- ## The start, and the end of the drain
-
-pub opened_edits : (e : ℕ) (key : Plan) (v : Told) → key ≡ small_plan (e ∷ (e ∷ (e ∷ []))) → v ≡ opened_editor ending_means key → Edits started 1 0 v
-opened_edits e key v k is = subst (Edits started 1 0) (sym (is ∙ ap (opened_editor ending_means) k)) record { notes_are = refl; seats = refl; number = refl; claim = omega arith; desk = refl }
 
 pub ends : (n k : Editor) (v w : Told) (place serial : ℕ) → Edits n 0 1 v → Ended ending_means (record { kind = 7; caller = 0; number = 0 }) 0 v w place serial → with_life 0 (ended 0 n) n ≡ k → w.view.number ≡ v.view.number → w.seats ≡ v.seats → Edits k 0 0 w
 ends n k v w place serial e x is number seats = record {

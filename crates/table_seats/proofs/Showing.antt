@@ -1,27 +1,23 @@
 -- For edits that show the disk by another number.
-use Rattle.std.proofs.Common.{◌≡◌, ◌≢◌, ℕ, zero, suc, ◌+◌, ◌-◌, ◌%◌, ◌<◌, ◌==◌, Bool, true, false, cond, if◌then◌else◌, List, [], ◌∷◌, ◌++◌, length, map, get_or, set, replicate, sym, refl, ap, ◌∙◌, subst, arith, ne_eqb, eq-eqb}
+use Rattle.std.proofs.Common.{◌≡◌, ◌≢◌, ℕ, zero, suc, ◌%◌, ◌<◌, ◌==◌, Bool, true, false, cond, if◌then◌else◌, List, [], ◌∷◌, ◌++◌, length, map, get_or, set, replicate, sym, refl, ap, ◌∙◌, subst, arith, ne_eqb, eq-eqb}
 use Rattle.std.proofs.lemmas.List.{length-set}
-use Rattle.ref_state.specs.declared.kinds.Tag.{Tag}
 use Rattle.ref_state.specs.declared.state.Mark.{Mark}
 use Rattle.ref_state.specs.declared.state.Mark.TheVariants.{Passed, Unseen, Noted}
 use Rattle.ref_state.specs.declared.state.Drain.{Drain}
 use Rattle.ref_state.specs.declared.state.Editor.{Editor}
-use Rattle.ref_state.specs.declared.state.Phase.TheVariants as phase
 use Rattle.ref_state.specs.State.{AllPassed, drain, no_drain, mark, looked, is_killed, total}
 use Rattle.ref_state.specs.Steps.{looked_at, at_drain, at_mark}
-use Rattle.table_rule.specs.declared.rule.Plan.{Plan}
 use Rattle.table_rule.specs.declared.rule.Told.{Told}
-use Rattle.table_rule.specs.Meant.{target, IsSteady}
-use Rattle.table_rule.specs.Shown.{claims_of, opened_editor}
+use Rattle.table_rule.specs.Meant.{target}
+use Rattle.table_rule.specs.Shown.{claims_of}
 use Rattle.table_rule.specs.Plays.{Published}
 use Rattle.table_rule.proofs.Claiming.{extended_total}
 use Rattle.table_rule.proofs.Histories.{target_snoc}
 use Rattle.small_target.specs.declared.Small.{Small}
 use Rattle.small_target.specs.Small.{edited}
-use Rattle.table_seats.specs.EndingMeans.{ending_means, small_plan}
+use Rattle.table_seats.specs.EndingMeans.{ending_means}
 use Rattle.table_seats.specs.Lives.{edit_of}
 use Rattle.table_seats.specs.Publishing.{Publishes}
-use Rattle.table_seats.proofs.Submitting.{Mine}
 
 even_look : (m : Mark) (w : ℕ) → w % 2 ≡ 0 → looked m w ≡ Passed
 even_look Unseen w e = ap (λ b. if b then Noted w else Passed) (ne_eqb (w % 2) 1 (omega arith))
@@ -91,6 +87,3 @@ publishes n v w place serial ne p x = record {
   live = ap (λ (z : Told). (drain z.notes 0).phase) x.told ∙ p.live;
   marks = ap (λ (z : Told). length z.notes.marks) x.told ∙ ap (λ k. length (replicate k Unseen)) p.seats;
 }
-
-pub opened_publishes : (e : ℕ) (key : Plan) (v : Told) → key ≡ small_plan (e ∷ (e ∷ (e ∷ []))) → v ≡ opened_editor ending_means key → Publishes v
-opened_publishes e key v k is = subst Publishes (sym (is ∙ ap (opened_editor ending_means) k)) record { number = refl; seats = refl; claim = omega arith; calm = refl; live = refl; marks = refl }

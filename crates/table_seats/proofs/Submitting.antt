@@ -1,17 +1,16 @@
 -- What a submit in a section of its own leaves.
-use Rattle.std.proofs.Common.{◌≡◌, ◌≢◌, ℕ, zero, suc, ◌+◌, ◌-◌, ◌<◌, ◌==◌, Bool, true, false, cond, List, [], ◌∷◌, ◌++◌, Option, Some, None, is_some, length, take, map, get_or, sym, refl, ap, ◌∙◌, subst, arith, eq-eqb}
+use Rattle.std.proofs.Common.{◌≡◌, ◌≢◌, ℕ, zero, suc, ◌+◌, ◌-◌, Bool, true, cond, List, [], ◌∷◌, ◌++◌, Option, Some, None, length, take, map, get_or, sym, refl, ap, ◌∙◌, subst, arith, eq-eqb}
 use Rattle.atomic_table.specs.Table.{Me}
 use Rattle.ref_state.specs.declared.kinds.Tag.{Tag}
 use Rattle.ref_state.specs.declared.state.Entry.{Entry}
 use Rattle.ref_state.specs.declared.state.Section.{Section}
 use Rattle.ref_state.specs.declared.state.Section.TheVariants.{Out, In, Placed}
-use Rattle.ref_state.specs.State.{is_bare}
 use Rattle.ref_state.specs.Steps.{after_enter, after_leave, after_add}
 use Rattle.table_rule.specs.declared.rule.Told.{Told}
 use Rattle.table_rule.specs.Meant.{target}
 use Rattle.table_rule.specs.Shown.{extended}
 use Rattle.table_rule.specs.Plays.{Drew, MayGet, drawn}
-use Rattle.table_rule.proofs.Histories.{target_next, target_stays, take_all}
+use Rattle.table_rule.proofs.Histories.{target_next, target_stays}
 use Rattle.small_target.specs.declared.Small.{Small}
 use Rattle.small_target.specs.Small.{small_held, small_words, where_shown}
 use Rattle.small_target.proofs.SmallLaws as laws

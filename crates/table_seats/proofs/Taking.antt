@@ -1,31 +1,20 @@
 -- Extents that are taken out and put back, and the Execute between.
-use Rattle.std.proofs.Common.{◌≡◌, ◌≢◌, ◌⊎◌, inl, inr, ℕ, zero, suc, ◌+◌, ◌-◌, ◌<◌, ◌==◌, ◌&&◌, not, nat_lt, Bool, true, false, cond, if◌then◌else◌, List, [], ◌∷◌, ◌++◌, Option, Some, None, length, get_or, set, sym, refl, ap, ◌∙◌, subst, arith, eq-eqb}
+use Rattle.std.proofs.Common.{◌≡◌, inl, inr, ℕ, zero, suc, ◌-◌, ◌==◌, Bool, true, false, cond, List, [], ◌∷◌, ◌++◌, Option, None, length, get_or, set, sym, refl, ap, ◌∙◌, subst, arith, eq-eqb}
 use Rattle.std.proofs.lemmas.Bool.{ltb-true}
 use Rattle.std.proofs.lemmas.List.{length-set}
-use Rattle.atomic_table.specs.Table.{Me, rest}
+use Rattle.atomic_table.specs.Table.{rest}
 use Rattle.ref_state.specs.declared.kinds.Tag.{Tag}
 use Rattle.ref_state.specs.declared.state.Hold.{Hold}
-use Rattle.ref_state.specs.declared.state.Turn.{Turn}
-use Rattle.ref_state.specs.State.{is_bare}
-use Rattle.ref_state.specs.Steps.{is_slot, without, Some_where, least, is_least, is_held, place_or, change}
+use Rattle.ref_state.specs.Steps.{is_slot, without, Some_where}
 use Rattle.table_rule.specs.declared.rule.Told.{Told}
 use Rattle.table_rule.specs.Meant.{target, replay}
-use Rattle.table_rule.specs.Words.{at, TurnOf}
-use Rattle.table_rule.specs.Plays.{Took, Executed, IsInHand}
+use Rattle.table_rule.specs.Plays.{Executed, IsInHand}
 use Rattle.table_rule.proofs.Histories.{target_snoc}
 use Rattle.small_target.specs.declared.Small.{Small}
 use Rattle.small_target.specs.Small.{small_next, small_touches, executed, edited, added, both_to}
 use Rattle.table_seats.specs.EndingMeans.{ending_means}
-use Rattle.table_seats.specs.Taking.{TookOut, turn_of, ExecutedIn}
+use Rattle.table_seats.specs.Taking.{TookOut, turn_of}
 use Rattle.table_seats.proofs.Submitting.{Mine}
-
-pub took_out : (n : ℕ) (a b c : Mine) → Took ending_means n a b → c ≡ (b.0, (n, None) ∷ rest b.1) → TookOut n a c
-took_out n a b c t e = record {
-  known = a.0.known ++ t.rest;
-  found = (at (TurnOf n), 0) ∷ a.0.found;
-  told = ap (λ (z : Mine). z.0) e ∙ t.told;
-  holds = ap (λ (z : Mine). z.1) e ∙ ap (λ l. (n, None) ∷ rest l) t.holds;
-}
 
 -- ## The blocks of the small target
 
@@ -64,24 +53,6 @@ wrote log tag two = let t = target ending_means log in
       sym (ap (λ (z : Small). get_or z.blocks 1 0) is ∙ set_is.1),
     )
 
--- ## The one hold
-
-module _ (h : Hold) (tag : Tag) (disk : h.disk ≡ 0) (one : h.call.kind ≡ 1) (waits : h.executed ≡ false) (caller : tag.caller ≡ h.call.caller) (number : tag.number ≡ h.call.number) where
-  bare_not : is_bare h.call ≡ false
-  bare_not = ap (λ k. k == 0) one
-
-  held_true : is_held tag 0 h ≡ true
-  held_true = λ i. eq-eqb h.disk 0 disk i && (eq-eqb h.call.caller tag.caller (sym caller) i && (eq-eqb h.call.number tag.number (sym number) i && (not (bare_not i) && not (waits i))))
-
-  least_true : is_least (is_held tag 0) (h ∷ []) h ≡ true
-  least_true = (λ i. held_true i && (h.place == place_or (if held_true i then Some h.place else None))) ∙ eq-eqb h.place h.place refl
-
-  pub least_one : least (is_held tag 0) (h ∷ []) ≡ Some h
-  least_one = ap (λ b. if b then Some h else None) least_true
-
-  pub change_one : (f : Hold → Hold) → change (is_least (is_held tag 0) (h ∷ [])) f (h ∷ []) ≡ f h ∷ []
-  change_one f = ap (λ b. if b then f h ∷ [] else h ∷ []) least_true
-
 -- ## The two extents in hand
 
 abbrev twice_out : List (ℕ × Option ℕ)
@@ -98,9 +69,6 @@ module _ (a b c : Mine) (zeroth : TookOut 0 a b) (first : TookOut 1 b c) (free :
 
   pub hand_two : c.1 ≡ (1, None) ∷ ((0, None) ∷ [])
   hand_two = first.holds ∙ ap (λ l. (1, None) ∷ l) (zeroth.holds ∙ ap (λ l. (0, None) ∷ l) free.1)
-
-  pub holds_same : c.0.view.holds ≡ a.0.view.holds
-  holds_same = ap (λ (z : Told). z.view.holds) first.told ∙ ap (λ (z : Told). z.view.holds) zeroth.told
 
   pub all_in_hand : (t : Tag) (d n : ℕ) → small_touches t d n ≡ true → Some_where (is_slot n) c.0.view.turns × IsInHand n c.1
   all_in_hand t d n on = let x = in_hand t d n on in (subst (Some_where (is_slot n)) (sym turns_two) x.0, subst (IsInHand n) (sym hand_two) x.1)

@@ -1,5 +1,5 @@
 -- What the editor's seat of a table with three seats keeps through one drain of the disk.
-use Rattle.std.specs.Prelude.{◌≡◌, ◌<◌, ℕ, List, [], ◌∷◌, replicate, Option, Some, None, true, false}
+use Rattle.std.specs.Prelude.{◌≡◌, ◌<◌, ℕ, [], ◌∷◌, replicate, Some, None, true, false}
 use Rattle.ref_state.specs.declared.kinds.Tag.{Tag}
 use Rattle.ref_state.specs.declared.state.Count.{Count}
 use Rattle.ref_state.specs.declared.state.Drain.{Drain}

@@ -1,6 +1,6 @@
 -- What the editor's seat of a table with three seats keeps while it publishes the disk by other
 -- numbers.
-use Rattle.std.specs.Prelude.{◌≡◌, ◌<◌, ℕ, length}
+use Rattle.std.specs.Prelude.{◌≡◌, ◌<◌, length}
 use Rattle.ref_state.specs.declared.state.Phase.TheVariants as phase
 use Rattle.ref_state.specs.State.{total, drain}
 use Rattle.table_rule.specs.declared.rule.Told.{Told}

@@ -1,4 +1,5 @@
-//! A small table with three seats, and what tests do on it in several steps: a submit, a get, a put.
+//! A small table with three seats, and what tests do on it in several steps: a submit, an Execute, a
+//! put, a drain, an edit, a hold handed over.
 #![tactic(auto)]
 
 pub mod executes;

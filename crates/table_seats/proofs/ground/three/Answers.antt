@@ -1,5 +1,4 @@
-use Rattle.std.proofs.Common.{arith, ◌≡◌, ◌<◌, ℕ, length, ap, sym, ◌∙◌, subst, List}
-use Rattle.std.specs.Prelude.{remove}
+use Rattle.std.proofs.Common.{arith, ◌<◌, length, ap, sym, ◌∙◌, subst}
 use mathlib.Core.Option.{some}
 use lib.ListN.{get_elem?}
 use Rattle.ref_state.proofs.Lists.{at_or}

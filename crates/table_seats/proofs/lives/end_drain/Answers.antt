@@ -1,4 +1,4 @@
-use Rattle.std.proofs.Common.{◌≡◌, ℕ, true, refl, ap, ◌∙◌}
+use Rattle.std.proofs.Common.{true, refl, ap, ◌∙◌}
 use Rattle.ref_state.specs.declared.state.Editor.{Editor}
 use Rattle.ref_state.specs.declared.state.Phase.TheVariants as phase
 use Rattle.table_rule.specs.declared.rule.Told.{Told}

@@ -1,9 +1,8 @@
-use Rattle.std.proofs.Common.{◌≡◌, ◌+◌, ◌%◌, ℕ, [], ◌∷◌, Some, None, arith, refl, ap, sym, ◌∙◌}
-use Rattle.ref_state.specs.declared.state.Count.{Count}
+use Rattle.std.proofs.Common.{◌≡◌, ◌+◌, ◌%◌, [], ◌∷◌, Some, refl, ap, ◌∙◌}
 use Rattle.ref_state.specs.declared.state.Editor.{Editor}
-use Rattle.ref_state.specs.State.{word_of, word_end, bias}
+use Rattle.ref_state.specs.State.{word_of, word_end}
 use Rattle.table_rule.specs.Plays.{with_life, counted}
-use Rattle.table_seats.specs.Lives.{Edits, passed, killed_life}
+use Rattle.table_seats.specs.Lives.{passed, killed_life}
 use Rattle.table_seats.proofs.Living as living
 use Rattle.table_seats.proofs.Submitting.{Mine}
 use Rattle.table_seats.proofs.lives.fold_all.Goals as goal

@@ -1,6 +1,6 @@
-use Rattle.std.proofs.Common.{◌≡◌, ◌∷◌, [], ℕ, refl, ap, sym, ◌∙◌}
+use Rattle.std.proofs.Common.{◌∷◌, [], refl, ap, sym, ◌∙◌}
 use Rattle.table_rule.specs.Plays.{spare_of}
-use Rattle.table_seats.specs.Lives.{Edits, started, edit_of}
+use Rattle.table_seats.specs.Lives.{started}
 use Rattle.table_seats.proofs.Living as living
 use Rattle.table_seats.proofs.Submitting.{Mine}
 use Rattle.table_seats.proofs.lives.hide.Goals as goal

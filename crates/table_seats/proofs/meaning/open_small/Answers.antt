@@ -1,4 +1,4 @@
-use Rattle.std.proofs.Common.{◌≡◌, ℕ, ap, sym, ◌∙◌}
+use Rattle.std.proofs.Common.{ap, sym, ◌∙◌}
 use lib.ListN.{get_elem?}
 use Rattle.table_seats.proofs.Eight.{all_blank}
 use Rattle.table_seats.proofs.meaning.open_small.Goals as goal

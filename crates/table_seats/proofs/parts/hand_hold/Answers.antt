@@ -1,4 +1,4 @@
-use Rattle.std.proofs.Common.{◌≡◌, ◌<◌, ◌+◌, ◌++◌, ℕ, List, arith, refl, ap, sym, ◌∙◌, subst}
+use Rattle.std.proofs.Common.{◌≡◌, ◌<◌, ◌++◌, ℕ, List, arith, refl, ap, sym, ◌∙◌, subst}
 use Rattle.ref_state.specs.declared.kinds.Take.TheVariants as take_of
 use Rattle.ref_state.specs.State.{total}
 use Rattle.table_rule.specs.declared.rule.Claim.{Claim}

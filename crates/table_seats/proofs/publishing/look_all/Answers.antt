@@ -1,6 +1,5 @@
-use Rattle.std.proofs.Common.{◌≡◌, ℕ, arith, ap, ◌∙◌}
+use Rattle.std.proofs.Common.{arith, ap, ◌∙◌}
 use Rattle.ref_state.specs.Steps.{at_mark}
-use Rattle.table_seats.specs.Publishing.{Publishes}
 use Rattle.table_seats.proofs.Showing as publishing
 use Rattle.table_seats.proofs.Submitting.{Mine}
 use Rattle.table_seats.proofs.publishing.look_all.Goals as goal

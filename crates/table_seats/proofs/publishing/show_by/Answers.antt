@@ -1,7 +1,6 @@
-use Rattle.std.proofs.Common.{◌≡◌, ◌<◌, ◌-◌, ℕ, List, [], ◌∷◌, length, set, arith, ap, sym, ◌∙◌, subst}
+use Rattle.std.proofs.Common.{◌≡◌, ◌-◌, ℕ, List, [], ◌∷◌, length, set, arith, ap, sym, ◌∙◌, subst}
 use Rattle.ref_state.specs.declared.state.Phase.TheVariants as phase
 use Rattle.ref_state.specs.State.{drain, conf, overlaid}
-use Rattle.table_rule.specs.declared.rule.Told.{Told}
 use Rattle.table_rule.specs.Plays.{spare_of}
 use Rattle.table_seats.specs.Publishing.{Publishes}
 use Rattle.table_seats.proofs.Showing as publishing
