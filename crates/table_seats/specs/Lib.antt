@@ -1,0 +1,5 @@
+pub mod EndingMeans
+pub mod Lives
+pub mod Publishing
+pub mod Resting
+pub mod Taking

@@ -1,0 +1,12 @@
+//! Tests alone: the kinds of step of the running table, each once on its way, over the small
+//! target.
+#![tactic(auto)]
+
+#[cfg(test)]
+mod drain_tests;
+#[cfg(test)]
+mod execute_tests;
+#[cfg(test)]
+mod gather_tests;
+#[cfg(test)]
+mod parts_tests;
