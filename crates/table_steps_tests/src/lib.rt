@@ -10,3 +10,7 @@ mod execute_tests;
 mod gather_tests;
 #[cfg(test)]
 mod parts_tests;
+#[cfg(test)]
+mod section_tests;
+#[cfg(test)]
+mod turn_tests;

@@ -1,11 +1,11 @@
 //! One seat at a time has the turn of a slot.
 ghost use Rattle.std.specs.Prelude.{◌≡◌};
 
-use crate::ground::three;
 use std::alloc::{AllocError, Global};
 use std::marker::Brand;
 use std::sync::ledger::{Blank, Ledger};
 use table_rule::ticks::Steps;
+use table_seats::ground::three;
 
 // Seat 1 tries slot 0, and seat 2 tries slots 1 and 0.
 fn three_tries<L: Ledger>(alloc: Global, blank: Blank) -> Result<(bool, bool, bool), AllocError>
