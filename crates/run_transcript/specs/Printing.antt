@@ -9,7 +9,6 @@ use Rattle.run_records.specs.declared.records.Head.{Head}
 use Rattle.run_records.specs.declared.records.Kind.{Kind}
 use Rattle.run_records.specs.declared.records.Kind.TheVariants as kinds
 use Rattle.run_records.specs.Records.{record_bytes}
-use Rattle.journal_text.specs.declared.lines.Answer.{Answer as EditAnswer}
 use Rattle.journal_text.specs.declared.lines.Answer.TheVariants as edits
 use Rattle.journal_text.specs.declared.lines.JournalLine.{JournalLine}
 use Rattle.journal_text.specs.declared.lines.JournalLine.TheVariants as lines

@@ -1,9 +1,8 @@
 -- What each caller's list is for what was read.
-use Rattle.std.specs.Prelude.{◌≡◌, ◌<◌, ℕ, ◌+◌, ◌==◌, ◌&&◌, Bool, true, false, if◌then◌else◌, not, List, [], ◌∷◌, ◌++◌, length, map, take, Some, None}
-use Rattle.std.specs.List.{flat_map, AllByRecursion}
+use Rattle.std.specs.Prelude.{◌≡◌, ◌<◌, ℕ, ◌+◌, ◌==◌, ◌&&◌, Bool, true, false, if◌then◌else◌, List, [], ◌∷◌, ◌++◌, length, take, Some, None}
+use Rattle.std.specs.List.{AllByRecursion}
 use Rattle.sqe_cqe.specs.declared.codes.TheConstants.{FABRICS}
 use Rattle.plan_files.specs.Capsules.{Capsule}
-use Rattle.run_transcript.specs.declared.scripts.ScriptEdit.{ScriptEdit}
 use Rattle.run_transcript.specs.Runs.{Placed, Run, target_at, target_after_all}
 use Rattle.run_transcript.specs.Turns.{Stage, Ready, Holding, Through, Ended, Progress, nothing_done, after_entry, next_call, Editing, nothing_edited, editing_after, next_edit}
 

@@ -1,12 +1,12 @@
 -- What a caller does next: a function of its file, of what it has done, and of the target then.
-use Rattle.std.specs.Prelude.{ℕ, ◌+◌, ◌-◌, ◌==◌, Bool, true, false, if◌then◌else◌, List, [], ◌∷◌, Option, Some, None, slice_get}
+use Rattle.std.specs.Prelude.{ℕ, ◌+◌, ◌-◌, ◌==◌, Bool, false, if◌then◌else◌, List, [], ◌∷◌, Option, Some, None, slice_get}
 use Rattle.sqe_cqe.specs.declared.codes.TheConstants.{FABRICS}
 use Rattle.plan_files.specs.Capsules.{Capsule}
 use Rattle.configfs_tree.specs.Phases.{phase_at}
 use Rattle.tree_target.specs.declared.calls.Reply.{Reply}
 use Rattle.tree_target.specs.declared.calls.Reply.TheVariants as replies
 use Rattle.tree_target.specs.declared.edits.Space.{Space}
-use Rattle.tree_target.specs.Edits.{Edit, disables}
+use Rattle.tree_target.specs.Edits.{disables}
 use Rattle.tree_target.specs.Model.{Call, Submit, Execute, Poll, Control, AnEdit, DrainEnd, Bound, Entry, Target, bound_at}
 use Rattle.tree_target.specs.Steps.{is_draining_phase}
 use Rattle.run_transcript.specs.declared.scripts.ScriptEdit.{ScriptEdit}
