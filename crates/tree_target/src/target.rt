@@ -5,7 +5,7 @@ ghost use Rattle.mem_bdev.specs.declared.limits.TheConstants.{MAX_TRANSFER};
 ghost use Rattle.plan_files.specs.declared.plan.TheConstants.{MAX_QUEUES};
 ghost use Rattle.tree_target.specs.Edits.{is_well_formed};
 ghost use Rattle.tree_target.specs.Loads.{LoadsTarget, start_of, loaded};
-ghost use Rattle.tree_target.specs.Kept.{HasHeldData, HasQueue, IsIdle, binding_in, bound_in, held_len, held_reply, qid_from};
+ghost use Rattle.tree_target.specs.Kept.{HasHeldData, HasQueue, IsIdle, binding_in, bound_in, is_admin_in, is_admin_bound, held_len, held_reply, qid_from};
 ghost use Rattle.tree_target.specs.Stands.{StandsFor};
 ghost use Rattle.tree_target.specs.Kept.{answered};
 
@@ -157,6 +157,16 @@ impl Target {
                 },
             ) => bound.qid,
             _ => 0,
+        }
+    }
+
+    /// Whether the queue is connected as an admin queue (QID 0).
+    pub fn is_admin(&self, queue: u32) -> bool
+        ensures { result ≡ is_admin_in self.now queue }
+    {
+        match self.bound(queue) {
+            None => false,
+            Some(bound) => bound.qid == 0,
         }
     }
 

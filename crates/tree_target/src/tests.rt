@@ -3,7 +3,7 @@ use super::*;
 use configfs_tree::{Attr, Errno, Folder, FolderEdit, Nqn, may_be_disks};
 use link_rules::{Edit, LinkEdit};
 use mem_bdev::{Buffer, DiskLine, Name};
-use sqe_cqe::{Bound, Controllers, Sqe, data_len, read_sqe};
+use sqe_cqe::{Bound, Controllers, Direction, FABRICS, Sqe, direction, read_sqe};
 use std::alloc::Global;
 use std::process::Abort;
 use std::test::Fail;
@@ -171,8 +171,14 @@ fn a_queue_that_is_not_connected_is_refused(rt: HostRuntime) -> Result<(), Fail>
     assert!(rt; target.is_idle(1));
     let reply = target.submit(1, 0, &entry(0x01, 7));
     status_is(&rt, &reply, 7, 0, 0x8002);
-    let reply = target.control(1, 1, &entry(0x7f, 8), &[]);
+    let mut fabrics = entry(0x7f, 8);
+    fabrics.opcode = FABRICS;
+    assert!(rt; direction(&fabrics) == Direction::ToController);
+    assert!(rt; fabrics.sgl_len == 512);
+    assert!(rt; target.is_idle(1));
+    let reply = target.control(1, 1, &fabrics, &[0; 512]);
     status_is(&rt, &reply, 8, 0, 0x8002);
+    assert!(rt; !target.is_admin(1));
     assert_eq!(rt; target.poll(1), Reply::NoEvent);
     assert!(rt;
         !target.lawful(
