@@ -1,0 +1,3 @@
+pub mod Tallies
+pub mod Prints
+pub mod Goes
