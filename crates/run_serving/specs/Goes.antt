@@ -1,14 +1,20 @@
 -- What serving makes of a target, of a queue's list and of its output.
-use Rattle.std.specs.Prelude.{◌≡◌, ◌<◌, ◌⊎◌, ℕ, ◌+◌, Bool, false, List, [], ◌∷◌, ◌++◌, length, Some, None, slice_get}
+use Rattle.std.specs.Prelude.{◌≡◌, ◌≤◌, ◌<◌, ◌⊎◌, ℕ, zero, suc, ◌+◌, Bool, true, false, List, [], ◌∷◌, ◌++◌, length, Some, None, slice_get}
 use Rattle.sqe_cqe.specs.declared.sqe.Sqe.{Sqe}
 use Rattle.plan_files.specs.Capsules.{Capsule}
+use Rattle.mem_bdev.specs.Texts.{Text, appended}
+use Rattle.run_records.specs.Records.{record_bytes}
+use Rattle.run_records.specs.declared.records.Kind.TheVariants as kinds
+use Rattle.tree_target.specs.declared.calls.Reply.{Reply}
+use Rattle.tree_target.specs.declared.calls.Reply.TheVariants as replies
 use Rattle.tree_target.specs.Kept.{Kept}
-use Rattle.tree_target.specs.Model.{Entry, Target, binding_at}
-use Rattle.tree_target.specs.Steps.{target_after}
+use Rattle.tree_target.specs.Model.{Call, Poll, Entry, Target, binding_at}
+use Rattle.tree_target.specs.Steps.{reply_of, target_after}
 use Rattle.tree_target.specs.Legal.{IsLegal, after}
-use Rattle.tree_target.specs.Stands.{StandsFor}
+use Rattle.tree_target.specs.Stands.{StandsFor, Simulates, room_of_call}
 use Rattle.run_transcript.specs.Runs.{Placed, placed_from, calls_of}
-use Rattle.run_transcript.specs.Turns.{Stage, Ready, Through, Progress, nothing_done, after_entry, progress_of, is_admin_at, next_call}
+use Rattle.run_transcript.specs.Turns.{Stage, Ready, Holding, Through, after_submit, Progress, nothing_done, after_entry, progress_of, is_admin_at, next_call}
+use Rattle.run_transcript.specs.Printing.{head_of}
 use Rattle.run_transcript.specs.Served.{front_len, is_final}
 use Rattle.run_serving.specs.declared.output.Output.{Output}
 use Rattle.run_serving.specs.Prints.{Prints}
@@ -79,6 +85,54 @@ ServesOne queue number e payload k o place k' o' place' = (file : List Capsule)
     → slice_get file number ≡ Some (record { entry = e; payload = payload })
     → Makes false queue file (HasTaken number) k o place (HasTaken (number + 1)) k' o' place'
 
+-- a command of the queue's next capsule was submitted
+abbrev pub ServesSubmit : ℕ → ℕ → Sqe → Reply → Kept → Output → ℕ → Kept → Output → ℕ → Type 0
+ServesSubmit queue number e reply k o place k' o' place' = (file : List Capsule)
+    (payload : List ℕ) → slice_get file number ≡ Some (record { entry = e; payload = payload })
+    → Makes false queue file (HasTaken number) k o place (IsAt (number + 1) (after_submit reply)) k'
+    o' place'
+
+-- the command that was held is executed
+abbrev pub ServesExecute : ℕ → ℕ → List ℕ → Kept → Output → ℕ → Kept → Output → ℕ → Type 0
+ServesExecute queue number payload k o place k' o' place' = (file : List Capsule) (e : Sqe)
+    → slice_get file number ≡ Some (record { entry = e; payload = payload })
+    → Makes false queue file (IsAt (number + 1) Holding) k o place (IsAt (number + 1) Through) k' o'
+    place'
+
+-- ---- polls
+-- polls of a queue, one after another, find no event after so many at the most
+abbrev pub EndsWithin : ℕ → Target → ℕ → Type 0
+EndsWithin zero t queue = ⊥
+EndsWithin (suc n) t queue = (reply_of t (Poll queue) ≡ replies.NoEvent)
+    ⊎ EndsWithin n (target_after t (Poll queue)) queue
+
+-- all capsules are taken and nothing is owed, and so many polls end
+pub record IsPolling (n : ℕ) (t : Target) (queue : ℕ) (file : List Capsule) (p : Progress)
+    : Type 0 where
+  pub stands : IsAt (length file) Ready t queue file p
+  pub ends : EndsWithin n t queue
+
+-- after such a poll: it ended them, or fewer are left
+abbrev pub HasPolled : Reply → ℕ → Target → ℕ → List Capsule → Progress → Type 0
+HasPolled replies.NoEvent n t queue file p = HasEnded t queue file p
+HasPolled (replies.Answered cqe) n t queue file p = IsPolling n t queue file p
+HasPolled replies.Held n t queue file p = ⊥
+HasPolled replies.Waiting n t queue file p = ⊥
+HasPolled replies.Accepted n t queue file p = ⊥
+HasPolled (replies.Errno errno) n t queue file p = ⊥
+HasPolled replies.Ended n t queue file p = ⊥
+
+-- the poll behind a command
+abbrev pub ServesPoll : ℕ → ℕ → Kept → Output → ℕ → Kept → Output → ℕ → Type 0
+ServesPoll queue number k o place k' o' place' = (file : List Capsule)
+    → Makes false queue file (IsAt number Through) k o place (HasTaken number) k' o' place'
+
+-- a final poll
+abbrev pub ServesFinal : ℕ → ℕ → Reply → Kept → Output → ℕ → Kept → Output → ℕ → Type 0
+ServesFinal queue number reply k o place k' o' place' = (file : List Capsule) (n : ℕ)
+    → length file ≡ number
+    → Makes true queue file (IsPolling (n + 1)) k o place (HasPolled reply n) k' o' place'
+
 -- ---- queues one after another
 abbrev pub all_of : List (List Entry) → List Entry
 all_of [] = []
@@ -147,3 +201,14 @@ MakesRound Size final queue files Pre k os place Post k' os' place' = (t : Targe
     (lists : List (List Placed)) → StandsFor k t → PrintEach os lists
     → EachStands Pre t queue files lists
     → GoesRound Size final queue files place t lists Post k' os' place'
+
+-- ---- an admin command
+-- it does what the model does, and its record stands behind what stood, with the data for the host
+pub record SubmitsInto (old : Kept) (call : Call) (reply : Reply) (given place number : ℕ)
+    (to to' : Text) (new : Kept) : Type 0 where
+  pub bytes : List ℕ
+  pub does : Simulates old call reply bytes new
+  pub given_is : given ≡ length bytes
+  pub appends : to' ≡ appended to
+      (record_bytes (head_of place kinds.Submit number reply (length bytes)) bytes)
+  pub short : length bytes ≤ room_of_call call

@@ -10,5 +10,6 @@
 #![tactic(auto)]
 
 mod output;
+mod serve;
 
 pub use output::Output;

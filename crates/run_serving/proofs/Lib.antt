@@ -1,0 +1,6 @@
+pub mod More
+pub mod Placing
+pub mod Making
+pub mod Nexts
+pub mod Calling
+pub mod Spaces

@@ -1,0 +1,163 @@
+// The calls of one queue.
+ghost use Rattle.std.specs.Prelude.{◌≡◌, ◌≤◌, ◌<◌, ◌+◌, ◌*◌, ◌^◌, ◌≢◌, [], IsTrue, true, false, length, ℕ};
+ghost use Rattle.mem_bdev.specs.Texts.{HasRoom, appended};
+ghost use Rattle.mem_bdev.specs.declared.limits.TheConstants.{MAX_TRANSFER};
+ghost use Rattle.sqe_cqe.specs.Sqe.{direction_of, host_len, payload_len};
+ghost use Rattle.sqe_cqe.specs.declared.codes.TheConstants.{FABRICS};
+ghost use Rattle.run_records.specs.Records.{record_bytes};
+ghost use Rattle.plan_files.specs.Rooms.{capsule_room};
+ghost use Rattle.tree_target.specs.Kept.{HasHeldData, HasQueue, IsHolding, IsIdle, LeavesOthers, held_bytes, held_len, holds, is_admin_in};
+ghost use Rattle.tree_target.specs.Model.{Submit, Execute, Poll, Control};
+ghost use Rattle.tree_target.specs.Stands.{Simulates};
+ghost use Rattle.run_transcript.specs.Printing.{head_of};
+ghost use Rattle.run_serving.specs.Goes.{ServesExecute, ServesOne, ServesSubmit};
+ghost use Rattle.run_serving.specs.Prints.{Adds};
+
+use crate::output::{Output, head};
+use mem_bdev::Buffer;
+use run_records::{HEAD_BYTES, Kind, write_head};
+use sqe_cqe::{FABRICS, Sqe};
+use tree_target::{Reply, Target};
+
+// Answers a fabrics command.
+fn control_one(
+    target: &mut Target,
+    queue: u32,
+    number: u32,
+    entry: &Sqe,
+    payload: &[u8],
+    place: u32,
+    output: &mut Output,
+)
+    requires queue { HasQueue target.old queue }
+    requires idle { (q : ℕ) → IsIdle target.old q }
+    requires opcode { entry.now.opcode ≡ FABRICS }
+    requires payload { length payload.now ≡ payload_len entry.now }
+    requires few { output.old.calls < 4294967295 }
+    requires room { HasRoom output.old.records HEAD_BYTES }
+    ensures idle { (q : ℕ) → IsIdle target.new q }
+    ensures queues { length target.new.bindings ≡ length target.old.bindings }
+    ensures calls { output.new.calls ≡ output.old.calls + 1 }
+    ensures len { length output.new.records.bytes ≡ length output.old.records.bytes + HEAD_BYTES }
+    ensures room { output.new.records.room ≡ output.old.records.room }
+    ensures serves { ServesOne queue number entry.now payload.now target.old output.old place
+        target.new output.new (place + 1) }
+{
+    let reply = target.control(queue, number, entry, payload);
+    output.add(place, Kind::Control, number, &reply);
+}
+
+// Executes the command that is held, and appends its record: the head, which the held command
+// tells, and behind it what a Read reads, straight from the disk. Tells how many bytes that were.
+fn execute_into(
+    target: &mut Target,
+    queue: u32,
+    number: u32,
+    payload: &[u8],
+    place: u32,
+    to: &mut Buffer,
+) -> (Reply, u32)
+    requires held { IsTrue (holds target.old queue number) }
+    requires data { HasHeldData target.old queue number (length payload.now) }
+    requires room { HasRoom to.old (HEAD_BYTES + held_len target.old queue number) }
+    ensures idle { IsIdle target.new queue }
+    ensures bindings { target.new.bindings ≡ target.old.bindings }
+    ensures others { LeavesOthers queue target.old target.new }
+    ensures does { Simulates target.old (Execute queue number payload.now) result.0
+        (held_bytes target.old queue number) target.new }
+    ensures given { result.1 ≡ length (held_bytes target.old queue number) }
+    ensures small { result.1 ≡ held_len target.old queue number }
+    ensures appends { to.new ≡ appended to.old
+        (record_bytes (head_of place Kind.Execute number result.0 result.1)
+        (held_bytes target.old queue number)) }
+    ensures len { length to.new.bytes ≡ length to.old.bytes
+        + (HEAD_BYTES + held_len target.old queue number) }
+{
+    let reply = target.held_reply(queue, number);
+    let given = target.held_len(queue, number);
+    to.put(&write_head(&head(place, Kind::Execute, number, &reply, given)));
+    let reply = target.execute(queue, number, payload, to);
+    (reply, given)
+}
+
+// Executes the command that is held.
+fn execute_one(
+    target: &mut Target,
+    queue: u32,
+    number: u32,
+    payload: &[u8],
+    place: u32,
+    output: &mut Output,
+)
+    requires held { IsTrue (holds target.old queue number) }
+    requires data { HasHeldData target.old queue number (length payload.now) }
+    requires short { held_len target.old queue number ≤ MAX_TRANSFER }
+    requires payload { length payload.now < 2 ^ 32 }
+    requires few { output.old.calls < 4294967295 }
+    requires room { HasRoom output.old.records (HEAD_BYTES + held_len target.old queue number) }
+    ensures idle { IsIdle target.new queue }
+    ensures bindings { target.new.bindings ≡ target.old.bindings }
+    ensures others { LeavesOthers queue target.old target.new }
+    ensures calls { output.new.calls ≡ output.old.calls + 1 }
+    ensures len { length output.new.records.bytes ≡
+        length output.old.records.bytes + (HEAD_BYTES + held_len target.old queue number) }
+    ensures room { output.new.records.room ≡ output.old.records.room }
+    ensures serves { ServesExecute queue number payload.now target.old output.old place target.new
+        output.new (place + 1) }
+{
+    let (reply, given) = execute_into(target, queue, number, payload, place, &mut output.records);
+    output.count(Kind::Execute, &reply, payload.len(), given as usize);
+}
+
+fn was_held(reply: &Reply) -> bool
+    ensures held { IsTrue result → reply.now ≡ Reply.Held }
+    ensures other { result ≡ false → reply.now ≢ Reply.Held }
+{
+    match reply {
+        Reply::Held => true,
+        Reply::Answered(_)
+        | Reply::Waiting
+        | Reply::NoEvent
+        | Reply::Accepted
+        | Reply::Errno(_)
+        | Reply::Ended => false,
+    }
+}
+
+// Submits a command of a queue that isn't a connected admin queue. The reply says whether it is
+// held.
+fn submit_one(
+    target: &mut Target,
+    queue: u32,
+    number: u32,
+    entry: &Sqe,
+    place: u32,
+    output: &mut Output,
+) -> Reply
+    requires queue { HasQueue target.old queue }
+    requires idle { IsIdle target.old queue }
+    requires opcode { entry.now.opcode ≢ FABRICS }
+    requires few { output.old.calls < 4294967295 }
+    requires room { HasRoom output.old.records HEAD_BYTES }
+    ensures held { result ≡ Reply.Held →
+        IsHolding target.new queue number (payload_len entry.now) (host_len entry.now) }
+    ensures idle { result ≢ Reply.Held → IsIdle target.new queue }
+    ensures bindings { target.new.bindings ≡ target.old.bindings }
+    ensures others { LeavesOthers queue target.old target.new }
+    ensures calls { output.new.calls ≡ output.old.calls + 1 }
+    ensures len { length output.new.records.bytes ≡ length output.old.records.bytes + HEAD_BYTES }
+    ensures room { output.new.records.room ≡ output.old.records.room }
+    ensures serves { ServesSubmit queue number entry.now result target.old output.old place
+        target.new output.new (place + 1) }
+{
+    let reply = target.submit(queue, number, entry);
+    let is_held = was_held(&reply);
+    // The two are apart, since the record of a held command is known but for its place and number:
+    // 38 instructions less a command.
+    if is_held {
+        output.add(place, Kind::Submit, number, &Reply::Held);
+    } else {
+        output.add(place, Kind::Submit, number, &reply);
+    }
+    reply
+}
