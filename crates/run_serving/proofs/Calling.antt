@@ -11,7 +11,7 @@ use Rattle.tree_target.specs.Stands.{StandsFor, Simulates}
 use Rattle.run_transcript.specs.Turns.{Ready, Holding, Through, Progress, after_submit, after_call}
 use Rattle.run_serving.specs.declared.output.Output.{Output}
 use Rattle.run_serving.specs.Prints.{Adds}
-use Rattle.run_serving.specs.Goes.{IsAt, IsPolling, HasPolled, HasTaken, Makes, ServesOne, ServesSubmit, ServesExecute, ServesPoll, ServesFinal}
+use Rattle.run_serving.specs.Goes.{IsAt, IsPolling, HasPolled, HasTaken, Makes, ServesOne, ServesSubmit, ServesThrough, ServesExecute, ServesPoll, ServesFinal}
 use Rattle.run_serving.proofs.More.{counted_submit, counted_execute, counted_poll, counted_control}
 use Rattle.run_serving.proofs.Making.{Calls, makes_one, makes_both, makes_by}
 use Rattle.run_serving.proofs.Nexts.{admin_is, admin_stays, calls_control, calls_submit, calls_execute, calls_poll, calls_final, control_ends, submit_ends, execute_ends, polled_ends, final_ends, settled_through}
@@ -98,12 +98,19 @@ both_serve queue n k k1 k2 o o1 o2 n0 n1 n2 reply e payload same admin held a b 
     (makes_both false queue file (HasTaken n) (IsAt (n + 1) Holding) (IsAt (n + 1) Through) k k1 k2
     o o1 o2 n0 n1 n2 (rw held at (a file payload at)) (b file e at))
 
--- a command of a connected admin queue, and its poll
-pub admin_serves : (queue n : ℕ) (k k1 k2 : Kept) (o o1 o2 : Output) (n0 n1 n2 : ℕ) (reply : Reply)
-    (e : Sqe) (payload : List ℕ) → after_submit reply ≡ Through
-    → ServesSubmit queue n e reply k o n0 k1 o1 n1
+-- a command of a connected admin queue, which is never held
+pub through_serves : (queue n : ℕ) (k k' : Kept) (o o' : Output) (place place' : ℕ) (reply : Reply)
+    (e : Sqe) → after_submit reply ≡ Through
+    → ServesSubmit queue n e reply k o place k' o' place'
+    → ServesThrough queue n e k o place k' o' place'
+through_serves queue n k k' o o' place place' reply e through a file payload at =
+    rw through at (a file payload at)
+
+-- such a command, and its poll
+pub admin_serves : (queue n : ℕ) (k k1 k2 : Kept) (o o1 o2 : Output) (n0 n1 n2 : ℕ) (e : Sqe)
+    (payload : List ℕ) → ServesThrough queue n e k o n0 k1 o1 n1
     → ServesPoll queue (n + 1) k1 o1 n1 k2 o2 n2
     → ServesOne queue n e payload k o n0 k2 o2 n2
-admin_serves queue n k k1 k2 o o1 o2 n0 n1 n2 reply e payload through a b file at =
+admin_serves queue n k k1 k2 o o1 o2 n0 n1 n2 e payload a b file at =
     makes_both false queue file (HasTaken n) (IsAt (n + 1) Through) (HasTaken (n + 1)) k k1 k2
-    o o1 o2 n0 n1 n2 (rw through at (a file payload at)) (b file)
+    o o1 o2 n0 n1 n2 (a file payload at) (b file)

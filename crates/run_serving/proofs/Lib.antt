@@ -3,4 +3,5 @@ pub mod Placing
 pub mod Making
 pub mod Nexts
 pub mod Calling
+pub mod Filing
 pub mod Spaces

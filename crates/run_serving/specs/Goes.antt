@@ -92,6 +92,12 @@ ServesSubmit queue number e reply k o place k' o' place' = (file : List Capsule)
     → Makes false queue file (HasTaken number) k o place (IsAt (number + 1) (after_submit reply)) k'
     o' place'
 
+-- the same where it was not held
+abbrev pub ServesThrough : ℕ → ℕ → Sqe → Kept → Output → ℕ → Kept → Output → ℕ → Type 0
+ServesThrough queue number e k o place k' o' place' = (file : List Capsule)
+    (payload : List ℕ) → slice_get file number ≡ Some (record { entry = e; payload = payload })
+    → Makes false queue file (HasTaken number) k o place (IsAt (number + 1) Through) k' o' place'
+
 -- the command that was held is executed
 abbrev pub ServesExecute : ℕ → ℕ → List ℕ → Kept → Output → ℕ → Kept → Output → ℕ → Type 0
 ServesExecute queue number payload k o place k' o' place' = (file : List Capsule) (e : Sqe)

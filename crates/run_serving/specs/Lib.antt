@@ -1,3 +1,4 @@
 pub mod Tallies
 pub mod Prints
 pub mod Goes
+pub mod Readiness

@@ -9,6 +9,7 @@
 //! fabrics-cmd.c, admin-cmd.c).
 #![tactic(auto)]
 
+mod files;
 mod output;
 mod serve;
 
