@@ -4,4 +4,5 @@ pub mod Making
 pub mod Nexts
 pub mod Calling
 pub mod Filing
+pub mod Polling
 pub mod Spaces

@@ -302,3 +302,8 @@ execute_ends t u queue n m file p payload reply is =
 
 pub no_fabrics : (opcode : ℕ) → opcode ≢ 127 → eqb opcode 127 ≡ false
 no_fabrics opcode h = grind arith
+
+pub admin_kept : (k k' : Kept) (queue : ℕ) (b : Bool) → k'.bindings ≡ k.bindings
+    → kept.is_admin_in k queue ≡ b → kept.is_admin_in k' queue ≡ b
+admin_kept k k' queue b same is =
+    ap (λ (bs : List CodeBinding). kept.is_admin_bound (kept.bound_in bs queue)) same ∙ is

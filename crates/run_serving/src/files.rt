@@ -1,9 +1,9 @@
 // One queue's file: its front, the rest, and the final polls.
-ghost use Rattle.std.specs.Prelude.{◌≡◌, ◌≤◌, ◌<◌, ◌+◌, ◌*◌, ◌^◌, true, false, length, take, drop, List, ℕ};
+ghost use Rattle.std.specs.Prelude.{◌≡◌, ◌≤◌, ◌<◌, ◌+◌, ◌*◌, ◌^◌, IsTrue, true, false, length, take, drop, List, ℕ};
 ghost use Rattle.sqe_cqe.specs.Sqe.{payload_len};
 ghost use Rattle.plan_files.specs.Capsules.{IsWholeIn, capsules_in};
 ghost use Rattle.mem_bdev.specs.declared.limits.TheConstants.{MAX_TRANSFER};
-ghost use Rattle.tree_target.specs.Kept.{HasQueue, IsIdle};
+ghost use Rattle.tree_target.specs.Kept.{HasQueue, IsIdle, is_answered, is_poll_reply};
 ghost use Rattle.tree_target.specs.declared.calls.Reply.TheVariants.{NoEvent};
 ghost use Rattle.run_transcript.specs.Served.{front_len};
 ghost use Rattle.run_serving.specs.Goes.{HasAll, HasEnded, HasFront, HasNothing, Makes};
@@ -74,4 +74,81 @@ pub(crate) fn serve_front(
         control_one(target, queue, number as u32, &capsule.sqe, payload, place, output);
     }
     place + front as u32
+}
+
+// Serves a file behind its front. Gives the next place.
+pub(crate) fn serve_rest(
+    target: &mut Target,
+    queue: u32,
+    file: &CapsuleFile,
+    place: u32,
+    output: &mut Output,
+) -> u32
+    requires queue { HasQueue target.old queue }
+    requires idle { (q : ℕ) → IsIdle target.old q }
+    requires servable { IsServable file.now }
+    requires ready { IsReadyAt file.now (front_of file.now) output.old }
+    requires places { place + 131072 < 2 ^ 32 }
+    ensures few { result ≤ place + 131072 }
+    ensures idle { (q : ℕ) → IsIdle target.new q }
+    ensures queues { length target.new.bindings ≡ length target.old.bindings }
+    ensures ready { IsReadyAt file.now (all_capsules file.now) output.new }
+    ensures serves { Makes false queue (capsules_of file.now) HasFront target.old output.old place
+        HasAll target.new output.new result }
+{
+    let mut next = place;
+    let front = front_len(&file.capsules);
+    for number in front..file.capsules.len() {
+        let capsule = &file.capsules[number];
+        let payload = payload_of(&file.bytes, capsule);
+        next = serve_one(target, queue, number as u32, &capsule.sqe, payload, next, output);
+    }
+    next
+}
+
+fn is_no_event(reply: &Reply) -> bool
+    ensures none { IsTrue result → reply.now ≡ NoEvent }
+    ensures event { result ≡ false → is_poll_reply reply.now ≡ true → is_answered reply.now ≡ true }
+{
+    match reply {
+        Reply::NoEvent => true,
+        Reply::Answered(_)
+        | Reply::Held
+        | Reply::Waiting
+        | Reply::Accepted
+        | Reply::Errno(_)
+        | Reply::Ended => false,
+    }
+}
+
+// The final polls of a queue, where it is a connected admin queue. Gives the next place.
+pub(crate) fn poll_to_end(
+    target: &mut Target,
+    queue: u32,
+    file: &CapsuleFile,
+    place: u32,
+    output: &mut Output,
+) -> u32
+    requires queue { HasQueue target.old queue }
+    requires idle { (q : ℕ) → IsIdle target.old q }
+    requires servable { IsServable file.now }
+    requires ready { IsReadyAt file.now (all_capsules file.now) output.old }
+    requires places { place + MAX_POLLS < 2 ^ 32 }
+    ensures few { result ≤ place + MAX_POLLS }
+    ensures idle { (q : ℕ) → IsIdle target.new q }
+    ensures queues { length target.new.bindings ≡ length target.old.bindings }
+    ensures serves { Makes true queue (capsules_of file.now) HasAll target.old output.old place
+        HasEnded target.new output.new result }
+{
+    if !target.is_admin(queue) {
+        return place;
+    }
+    let taken = file.capsules.len() as u32;
+    for polls in 0..MAX_POLLS {
+        let reply = poll_one(target, queue, taken, place + polls, output);
+        if is_no_event(&reply) {
+            return place + polls + 1;
+        }
+    }
+    place + MAX_POLLS
 }
