@@ -5,4 +5,5 @@ pub mod Nexts
 pub mod Calling
 pub mod Filing
 pub mod Polling
+pub mod Turning
 pub mod Spaces

@@ -11,6 +11,7 @@
 
 mod files;
 mod output;
+mod rounds;
 mod serve;
 
 pub use output::Output;
