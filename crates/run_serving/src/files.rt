@@ -17,7 +17,7 @@ use sqe_cqe::FABRICS;
 use tree_target::{Reply, Target};
 
 // How many event requests can wait on an admin queue, and one poll more.
-const MAX_POLLS: u32 = 5;
+pub(crate) const MAX_POLLS: u32 = 5;
 
 // How many fabrics commands capsules begin with.
 fn front_len(capsules: &[Capsule]) -> usize
