@@ -6,4 +6,5 @@ pub mod Calling
 pub mod Filing
 pub mod Polling
 pub mod Turning
+pub mod Scripting
 pub mod Spaces

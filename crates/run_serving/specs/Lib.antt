@@ -2,3 +2,5 @@ pub mod Tallies
 pub mod Prints
 pub mod Goes
 pub mod Readiness
+pub mod Lines
+pub mod Editor

@@ -9,9 +9,11 @@
 //! fabrics-cmd.c, admin-cmd.c).
 #![tactic(auto)]
 
+mod editing;
 mod files;
 mod output;
 mod rounds;
 mod serve;
 
+pub use editing::Edited;
 pub use output::Output;
