@@ -1,5 +1,5 @@
 -- What the editor's calls make, put together.
-use Rattle.std.proofs.Common.{◌≡◌, ℕ, zero, ◌+◌, ◌&&◌, not, Bool, true, false, if◌then◌else◌, List, [], ◌∷◌, ◌++◌, length, find, Option, Some, None, slice_get, refl, sym, ap, subst, ◌∙◌, append_assoc, arith, eqb}
+use Rattle.std.proofs.Common.{◌≡◌, ◌<◌, ℕ, zero, suc, ◌+◌, get_or, ◌&&◌, not, Bool, true, false, if◌then◌else◌, List, [], ◌∷◌, ◌++◌, length, find, Option, Some, None, slice_get, refl, sym, ap, subst, ◌∙◌, append_assoc, arith, eqb}
 use Rattle.std.proofs.lemmas.List.{append-nil, length-append}
 use Rattle.std.specs.List.{sum_by}
 use Rattle.std.proofs.lemmas.List.Sums.{sum_by-append}
@@ -331,3 +331,19 @@ serves_ended s k k1 k2 o o1 o2 n0 n1 n2 a b script n at =
 pub idle_along : (k k' : Kept) → k'.held ≡ k.held → ((q : ℕ) → IsIdle k q)
     → (q : ℕ) → IsIdle k' q
 idle_along k k' same idle q = ap (λ (h : List Command). find (is_of q) h) same ∙ idle q
+
+-- ---- one more edit of the script
+some_at : (script : List ScriptEdit) (n : ℕ) (d : ScriptEdit) → n < length script
+    → slice_get script n ≡ Some (get_or script n d)
+some_at [] n d lt = absurd (omega arith)
+some_at (s ∷ script) zero d lt = refl
+some_at (s ∷ script) (suc n) d lt = some_at script n d (omega arith)
+
+pub edits_more : (script : List ScriptEdit) (n : ℕ) (s d : ScriptEdit)
+    (Pre : Target → Editing → Type 0) (k k1 k2 : Kept) (o o1 o2 : Edited) (n0 n1 n2 : ℕ)
+    → n < length script → s ≡ get_or script n d
+    → MakesEdits script Pre k o n0 (HasMade n) k1 o1 n1 → ServesEdit s k1 o1 n1 k2 o2 n2
+    → MakesEdits script Pre k o n0 (HasMade (n + 1)) k2 o2 n2
+edits_more script n s d Pre k k1 k2 o o1 o2 n0 n1 n2 lt is a b =
+    edits_both script Pre (HasMade n) (HasMade (n + 1)) k k1 k2 o o1 o2 n0 n1 n2 a
+    (b script n (some_at script n d lt ∙ ap (λ (x : ScriptEdit). Some x) (sym is)))
