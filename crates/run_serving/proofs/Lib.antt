@@ -7,4 +7,5 @@ pub mod Filing
 pub mod Polling
 pub mod Turning
 pub mod Scripting
+pub mod Starting
 pub mod Spaces

@@ -4,3 +4,5 @@ pub mod Goes
 pub mod Readiness
 pub mod Lines
 pub mod Editor
+pub mod Fresh
+pub mod Ran

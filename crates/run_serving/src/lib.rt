@@ -14,6 +14,8 @@ mod files;
 mod output;
 mod rounds;
 mod serve;
+mod whole;
 
 pub use editing::Edited;
 pub use output::Output;
+pub use whole::Served;
