@@ -8,4 +8,7 @@ pub mod Polling
 pub mod Turning
 pub mod Scripting
 pub mod Starting
+pub mod Pieces
+pub mod Assembling
+pub mod Concluding
 pub mod Spaces
