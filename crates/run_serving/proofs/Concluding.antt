@@ -32,7 +32,7 @@ use Rattle.run_serving.specs.Readiness.{capsules_of, files_of}
 use Rattle.run_serving.specs.Fresh.{empties}
 use Rattle.run_serving.specs.Ran.{HoldRecords}
 use Rattle.run_serving.proofs.Placing.{after-append, IsLegal-append, placed_from-append}
-use Rattle.run_serving.proofs.Pieces.{above_all, all_append, are_from, below_all, bring_front, cut_on, is_rising, longer, one_on, placed_before, rises_on, target_here}
+use Rattle.run_serving.proofs.Pieces.{above_all, all_append, are_from, below_all, bring_front, cut_on, is_rising, longer, one_on, placed_before, rises_on, target_here, Rises}
 use Rattle.run_serving.proofs.Assembling.{Assembled, assemble, nils}
 use Rattle.run_serving.proofs.Turning.{own_call}
 
@@ -181,9 +181,6 @@ module _ (leaves : QueuesLeaveDesk) (plan : Plan) (passed_over : ℕ) (start : T
     (editing_after_all nothing_edited E))
     (len1 : n1 ≡ 0 + length (all_of F)) (len2 : n2 ≡ n1 + length E)
     (len3 : n3 ≡ n2 + length (all_of R)) where
-  abbrev pub history : List Entry
-  history = all_of F ++ (E ++ (all_of R ++ all_of P))
-
   abbrev pub the_run : Run
   the_run = record {
     plan = plan;
@@ -195,3 +192,190 @@ module _ (leaves : QueuesLeaveDesk) (plan : Plan) (passed_over : ℕ) (start : T
     queues = joined n3 (joined n2 (joined 0 (nils files) F) R) P;
     history = all_of F ++ (E ++ (all_of R ++ all_of P));
   }
+
+  same2 : after start (calls_of (all_of F ++ E))
+      ≡ after (after start (calls_of (all_of F))) (calls_of E)
+  same2 = after-append start (all_of F) E
+
+  same3 : after start (calls_of ((all_of F ++ E) ++ all_of R))
+      ≡ after (after (after start (calls_of (all_of F))) (calls_of E)) (calls_of (all_of R))
+  same3 = after-append start (all_of F ++ E) (all_of R)
+      ∙ ap (λ (t : Target). after t (calls_of (all_of R))) same2
+
+  history_is : all_of F ++ (E ++ (all_of R ++ all_of P))
+      ≡ ((all_of F ++ E) ++ all_of R) ++ all_of P
+  history_is = sym (append_assoc (all_of F ++ E) (all_of R) (all_of P)
+      ∙ append_assoc (all_of F) E (all_of R ++ all_of P))
+
+  same4 : target_after_all the_run
+      ≡ after (after (after (after start (calls_of (all_of F))) (calls_of E))
+      (calls_of (all_of R))) (calls_of (all_of P))
+  same4 = ap (λ (h : List Entry). after start (calls_of h)) history_is
+      ∙ after-append start ((all_of F ++ E) ++ all_of R) (all_of P)
+      ∙ ap (λ (t : Target). after t (calls_of (all_of P))) same3
+
+  pub places_len : n3 + length (all_of P) ≡ length (all_of F ++ (E ++ (all_of R ++ all_of P)))
+  places_len = omega (
+    arith,
+    len1,
+    len2,
+    len3,
+    length-append (all_of F) (E ++ (all_of R ++ all_of P)),
+    length-append E (all_of R ++ all_of P),
+    length-append (all_of R) (all_of P),
+  )
+
+  pub assembled : Assembled the_run 1 files (joined n3 (joined n2 (joined 0 (nils files) F) R) P)
+      (placed_from 0 (all_of F)) (placed_from n2 (all_of R)) (placed_from n3 (all_of P)) n3
+  assembled =
+      assemble the_run 1 files 0 n2 n3 n3 [] (all_of F ++ E) ((all_of F ++ E) ++ all_of R)
+      (E ++ (all_of R ++ all_of P)) (all_of P) [] F R P refl
+      (omega (arith, len1, len2, length-append (all_of F) E))
+      (omega (arith, len1, len2, len3, length-append (all_of F) E,
+      length-append (all_of F ++ E) (all_of R)))
+      refl (sym (append_assoc (all_of F) E (all_of R ++ all_of P)))
+      (history_is ∙ ap (λ (x : List Entry). ((all_of F ++ E) ++ all_of R) ++ x)
+      (sym (append-nil (all_of P))))
+      roundF
+      (subst (λ (t : Target). Round AnySize false 1 files (joined 0 (nils files) F) t R) (sym same2)
+      roundR)
+      (subst (λ (t : Target). Round AnySize true 1 files (joined n2 (joined 0 (nils files) F) R) t P)
+      (sym same3) roundP)
+      (subst (λ (t : Target). EachStands HasEnded t 1 files
+      (joined n3 (joined n2 (joined 0 (nils files) F) R) P)) (sym same4) ended)
+      (omega (arith, len1, len2)) (omega (arith, len3)) (omega (arith, len3))
+
+  pub legal : IsLegalRun the_run
+  legal =
+      IsLegal-append start (all_of F) (E ++ (all_of R ++ all_of P))
+      (round_legal IsFrontLong false 1 files (nils files) start F roundF)
+      (IsLegal-append (after start (calls_of (all_of F))) E (all_of R ++ all_of P) legalE
+      (IsLegal-append (after (after start (calls_of (all_of F))) (calls_of E)) (all_of R) (all_of P)
+      (round_legal AnySize false 1 files (joined 0 (nils files) F) _ R roundR)
+      (round_legal AnySize true 1 files (joined n2 (joined 0 (nils files) F) R) _ P roundP)))
+
+  -- the history's places, piece by piece
+  places : placed_from 0 (all_of F ++ (E ++ (all_of R ++ all_of P)))
+      ≡ placed_from 0 (all_of F) ++ (placed_from n1 E ++ (placed_from n2 (all_of R)
+      ++ placed_from n3 (all_of P)))
+  places =
+      placed_from-append 0 (all_of F) (E ++ (all_of R ++ all_of P))
+      ∙ ap (λ (x : List Placed). placed_from 0 (all_of F) ++ x)
+      (ap (λ m. placed_from m (E ++ (all_of R ++ all_of P))) (sym len1)
+      ∙ placed_from-append n1 E (all_of R ++ all_of P)
+      ∙ ap (λ (x : List Placed). placed_from n1 E ++ x)
+      (ap (λ m. placed_from m (all_of R ++ all_of P)) (sym len2)
+      ∙ placed_from-append n2 (all_of R) (all_of P)
+      ∙ ap (λ m. placed_from n2 (all_of R) ++ placed_from m (all_of P)) (sym len3)))
+
+  pub turn : IsInTurn the_run
+  turn =
+      rw (assembled.fronts_are, assembled.rests_are, assembled.finals_are) (sym places)
+
+  pub ordered : IsOrdered the_run
+  ordered = record {
+    rising = (
+      is_rising n1 (placed_from n1 E)
+          (subst (λ (x : List Placed). Rises n1 x) (append-nil (placed_from n1 E))
+          (rises_on n1 E [] tt)),
+      assembled.rising,
+    );
+    merged =
+        subst (λ (x : List Placed). IsPermutation x (placed_from 0
+        (all_of F ++ (E ++ (all_of R ++ all_of P)))))
+        (sym (flat_map-cons (λ (list : List Placed). list) (placed_from n1 E)
+        (joined n3 (joined n2 (joined 0 (nils files) F) R) P)))
+        (subst (λ (x : List Placed). IsPermutation (placed_from n1 E
+        ++ flat_map (λ (list : List Placed). list)
+        (joined n3 (joined n2 (joined 0 (nils files) F) R) P)) x) (sym places)
+        (IsPermutation-trans
+        (placed_from n1 E ++ flat_map (λ (list : List Placed). list)
+        (joined n3 (joined n2 (joined 0 (nils files) F) R) P))
+        (placed_from n1 E ++ (placed_from 0 (all_of F) ++ (placed_from n2 (all_of R)
+        ++ placed_from n3 (all_of P))))
+        (placed_from 0 (all_of F) ++ (placed_from n1 E ++ (placed_from n2 (all_of R)
+        ++ placed_from n3 (all_of P))))
+        (IsPermutation-append_right (placed_from n1 E) (flat_map (λ (list : List Placed). list)
+        (joined n3 (joined n2 (joined 0 (nils files) F) R) P))
+        (placed_from 0 (all_of F) ++ (placed_from n2 (all_of R) ++ placed_from n3 (all_of P)))
+        assembled.merged)
+        (bring_front (placed_from n1 E) (placed_from 0 (all_of F)) (placed_from n2 (all_of R)
+        ++ placed_from n3 (all_of P)))));
+  }
+
+  made_at_last : HasMade (length script) (target_after_all the_run)
+      (editing_after_all nothing_edited E)
+  made_at_last =
+      subst (λ (t : Target). HasMade (length script) t (editing_after_all nothing_edited E))
+      (sym same4)
+      (made_along (length script)
+      (after (after (after start (calls_of (all_of F))) (calls_of E)) (calls_of (all_of R)))
+      (after (after (after (after start (calls_of (all_of F))) (calls_of E)) (calls_of (all_of R)))
+      (calls_of (all_of P))) (editing_after_all nothing_edited E)
+      (round_leaves leaves AnySize true 1 files (joined n2 (joined 0 (nils files) F) R) _ P
+      (omega arith) roundP)
+      (made_along (length script) (after (after start (calls_of (all_of F))) (calls_of E))
+      (after (after (after start (calls_of (all_of F))) (calls_of E)) (calls_of (all_of R)))
+      (editing_after_all nothing_edited E)
+      (round_leaves leaves AnySize false 1 files (joined 0 (nils files) F) _ R (omega arith) roundR)
+      made))
+
+  pub served : IsServed the_run
+  served = record {
+    queues = assembled.serves;
+    script = serves_script the_run nothing_edited (all_of F) E (all_of R ++ all_of P) n1 refl
+        (omega (arith, len1)) edits (no_edit (target_after_all the_run) script (editing_after_all nothing_edited E)
+        made_at_last);
+    first = subst (λ (x : List Placed). AreFrom 0 x) (sym assembled.fronts_are)
+        (are_from 0 (all_of F));
+    last = placed_before n3
+        (placed_from n1 E ++ bodies files (joined n3 (joined n2 (joined 0 (nils files) F) R) P))
+        (finals files (joined n3 (joined n2 (joined 0 (nils files) F) R) P))
+        (all_append (λ (x : Placed). x.place < n3) (placed_from n1 E)
+        (bodies files (joined n3 (joined n2 (joined 0 (nils files) F) R) P))
+        (below_all n1 n3 E (omega (arith, len2, len3))) assembled.early)
+        (subst (λ (x : List Placed). AllByRecursion (λ (y : Placed). n3 ≤ y.place) x)
+        (sym assembled.finals_are) (above_all n3 n3 (all_of P) (omega arith)));
+  }
+
+-- ---- prints
+pub hold_records : (os : List Output) (lists : List (List Placed)) → PrintEach os lists
+    → HoldRecords os lists
+hold_records [] [] a = tt
+hold_records [] (l ∷ lists) a = absurd a
+hold_records (o ∷ os) [] a = absurd a
+hold_records (o ∷ os) (l ∷ lists) a = (a.0.records, hold_records os lists a.1)
+
+sum-cons : {X : Type 0} (f : X → ℕ) (x : X) (xs : List X) → sum_by f (x ∷ xs) ≡ f x + sum_by f xs
+sum-cons f x xs = sum_by-append f (x ∷ []) xs ∙ omega arith
+
+-- a number of the outputs is that of what all queues did
+pub sum_is : (f : Output → ℕ) (g : Placed → ℕ)
+    → ((o : Output) (list : List Placed) → Prints o list → f o ≡ sum_by g list)
+    → (os : List Output) (lists : List (List Placed)) → PrintEach os lists
+    → sum_by f os ≡ sum_by g (flat_map (λ (list : List Placed). list) lists)
+sum_is f g each [] [] a = refl
+sum_is f g each [] (l ∷ lists) a = absurd a
+sum_is f g each (o ∷ os) [] a = absurd a
+sum_is f g each (o ∷ os) (l ∷ lists) a =
+    let one : f o ≡ sum_by g l = each o l a.0 in
+    let others : sum_by f os ≡ sum_by g (flat_map (λ (list : List Placed). list) lists) =
+    sum_is f g each os lists a.1 in
+    let more : sum_by g (flat_map (λ (list : List Placed). list) (l ∷ lists))
+        ≡ sum_by g l + sum_by g (flat_map (λ (list : List Placed). list) lists) =
+    ap (sum_by g) (flat_map-cons (λ (list : List Placed). list) l lists)
+    ∙ sum_by-append g l (flat_map (λ (list : List Placed). list) lists) in
+    omega (arith, sum-cons f o os, one, others, more)
+
+-- ---- the start
+pub nils_are : (fs : List CapsuleFile) → empties fs ≡ nils (files_of fs)
+nils_are [] = refl
+nils_are (f ∷ fs) = ap (λ (x : List (List Placed)). [] ∷ x) (nils_are fs)
+
+pub nothing_yet : (t : Target) (queue : ℕ) (files : List (List Capsule))
+    → EachStands HasNothing t queue files (nils files)
+nothing_yet t queue [] = tt
+nothing_yet t queue (f ∷ files) = (refl, nothing_yet t (queue + 1) files)
+
+pub nothing_made : (t : Target) → HasMade 0 t nothing_edited
+nothing_made t = record { made_is = refl; no_drain = λ next. refl }

@@ -5,4 +5,5 @@ pub mod Readiness
 pub mod Lines
 pub mod Editor
 pub mod Fresh
+pub mod InTurn
 pub mod Ran

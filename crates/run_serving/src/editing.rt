@@ -28,6 +28,7 @@ impl Edited {
     pub fn new(alloc: Global, edits: usize) -> Result<Self, AllocError>
         requires { edits ≤ 65536 }
         ensures journals { IfOk result (λ o. Journals o []) }
+        ensures fresh { IfOk result (λ o. AreFew o 0) }
     {
         let lines = Vec::with_capacity(alloc, 2 * edits)?;
         Ok(Edited {

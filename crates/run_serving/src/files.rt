@@ -10,7 +10,7 @@ ghost use Rattle.run_serving.specs.Goes.{HasAll, HasEnded, HasFront, HasNothing,
 ghost use Rattle.run_serving.specs.Readiness.{IsReadyAt, IsServable, all_capsules, capsules_of, front_of, nothing_of, opcode_at};
 
 use crate::output::Output;
-use crate::serve::{control_one, poll_one, serve_one};
+use crate::calls::{control_one, poll_one, serve_one};
 use plan_files::Capsule;
 use run_transcript::CapsuleFile;
 use sqe_cqe::FABRICS;

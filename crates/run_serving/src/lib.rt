@@ -13,9 +13,9 @@ mod editing;
 mod files;
 mod output;
 mod rounds;
-mod serve;
+mod calls;
 mod whole;
 
 pub use editing::Edited;
 pub use output::Output;
-pub use whole::Served;
+pub use whole::{Served, serve};

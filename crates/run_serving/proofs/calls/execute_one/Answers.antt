@@ -6,7 +6,7 @@ use Rattle.tree_target.specs.Kept.{held_bytes}
 use Rattle.run_transcript.specs.Printing.{head_of}
 use Rattle.run_serving.proofs.More.{counts_more}
 use Rattle.run_serving.proofs.Calling.{makes_execute}
-use Rattle.run_serving.proofs.serve.execute_one.Goals as goal
+use Rattle.run_serving.proofs.calls.execute_one.Goals as goal
 
 pub returns-clause-serves : goal.returns-clause-serves
 returns-clause-serves c =

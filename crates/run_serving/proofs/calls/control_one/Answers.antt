@@ -1,7 +1,7 @@
 use Rattle.std.proofs.Common.{◌∙◌}
 use Rattle.run_serving.proofs.Calling.{makes_control}
 use Rattle.run_serving.proofs.Spaces.{taken_len}
-use Rattle.run_serving.proofs.serve.control_one.Goals as goal
+use Rattle.run_serving.proofs.calls.control_one.Goals as goal
 
 pub control-reply-requires-clause-payload : goal.control-reply-requires-clause-payload
 control-reply-requires-clause-payload c = λ way. c.requires.payload

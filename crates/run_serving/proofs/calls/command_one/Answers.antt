@@ -5,7 +5,7 @@ use Rattle.run_transcript.specs.Turns.{after_submit}
 use Rattle.run_serving.proofs.Calling.{submit_serves, both_serve}
 use Rattle.run_serving.proofs.Nexts.{not_held}
 use Rattle.run_serving.proofs.Spaces.{head_room, both_room}
-use Rattle.run_serving.proofs.serve.command_one.Goals as goal
+use Rattle.run_serving.proofs.calls.command_one.Goals as goal
 
 pub submit_one-reply-requires-clause-room : goal.submit_one-reply-requires-clause-room
 submit_one-reply-requires-clause-room c = omega (arith, c.requires.room, head_room c.args.entry.now)

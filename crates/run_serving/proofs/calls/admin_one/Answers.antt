@@ -1,7 +1,7 @@
 use Rattle.std.proofs.Common.{arith}
 use Rattle.run_serving.proofs.Calling.{admin_serves}
 use Rattle.run_serving.proofs.Spaces.{admin_room}
-use Rattle.run_serving.proofs.serve.admin_one.Goals as goal
+use Rattle.run_serving.proofs.calls.admin_one.Goals as goal
 
 pub submit_admin_one-requires-clause-room : goal.submit_admin_one-requires-clause-room
 submit_admin_one-requires-clause-room c = omega (

@@ -2,7 +2,7 @@ use Rattle.std.proofs.Common.{◌≡◌}
 use Rattle.tree_target.specs.declared.calls.Reply.TheVariants.{Held}
 use Rattle.run_serving.proofs.Calling.{makes_submit}
 use Rattle.run_serving.proofs.Nexts.{no_fabrics}
-use Rattle.run_serving.proofs.serve.submit_one.Goals as goal
+use Rattle.run_serving.proofs.calls.submit_one.Goals as goal
 
 pub returns-then-is_held-clause-serves : goal.returns-then-is_held-clause-serves
 returns-then-is_held-clause-serves c =

@@ -3,7 +3,7 @@ use Rattle.run_records.specs.declared.records.Kind.TheVariants as kinds
 use Rattle.run_serving.proofs.More.{counts_more}
 use Rattle.run_serving.proofs.Calling.{makes_submit, through_serves}
 use Rattle.run_serving.proofs.Nexts.{not_held, no_fabrics}
-use Rattle.run_serving.proofs.serve.submit_admin_one.Goals as goal
+use Rattle.run_serving.proofs.calls.submit_admin_one.Goals as goal
 
 pub returns-clause-serves : goal.returns-clause-serves
 returns-clause-serves c =

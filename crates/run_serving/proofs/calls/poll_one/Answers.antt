@@ -1,5 +1,5 @@
 use Rattle.run_serving.proofs.Calling.{makes_poll, makes_final}
-use Rattle.run_serving.proofs.serve.poll_one.Goals as goal
+use Rattle.run_serving.proofs.calls.poll_one.Goals as goal
 
 pub returns-clause-serves : goal.returns-clause-serves
 returns-clause-serves c = makes_poll _ _ _ _ _ _ _ _ c.poll-reply.ensures.does c.add.ensures.adds

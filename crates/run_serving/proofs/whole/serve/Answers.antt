@@ -1,0 +1,1 @@
+use Rattle.run_serving.proofs.whole.serve.Goals as goal
