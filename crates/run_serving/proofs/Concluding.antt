@@ -26,15 +26,20 @@ use Rattle.run_transcript.specs.Served.{AreFrom, ArePlacedBefore, IsServed, Serv
 use Rattle.run_transcript.specs.Turns.{Disabled, Editing, Progress, after_entry, edit_after, edit_on, editing_after, next_edit, nothing_done, nothing_edited}
 use Rattle.run_serving.specs.declared.output.Output.{Output}
 use Rattle.run_serving.specs.Prints.{Prints}
-use Rattle.run_serving.specs.Goes.{AnySize, AreNext, EachStands, HasEnded, HasNothing, IsFrontLong, PrintEach, Round, all_of, joined}
+use Rattle.run_serving.specs.Goes.{AnySize, AreNext, EachStands, HasEnded, HasFront, HasNothing, IsFrontLong, PrintEach, Round, all_of, joined}
 use Rattle.run_serving.specs.Editor.{AreEdits, HasMade, editing_after_all}
 use Rattle.run_serving.specs.Readiness.{capsules_of, files_of}
-use Rattle.run_serving.specs.Fresh.{empties}
-use Rattle.run_serving.specs.Ran.{HoldRecords}
+use Rattle.run_serving.specs.Fresh.{AreFresh, empties}
+use Rattle.run_serving.specs.InTurn.{ServesInTurn}
+use Rattle.run_serving.specs.Lines.{Journals}
+use Rattle.run_serving.specs.declared.editing.Edited.{Edited}
+use Rattle.run_serving.specs.declared.whole.Served.{Served}
+use Rattle.run_transcript.specs.Sums.{submit_count, execute_count, refusal_count, event_count, waiting_count, payload_count}
+use Rattle.run_serving.specs.Ran.{HoldRecords, Ran}
 use Rattle.run_serving.proofs.Placing.{after-append, IsLegal-append, placed_from-append}
 use Rattle.run_serving.proofs.Pieces.{above_all, all_append, are_from, below_all, bring_front, cut_on, is_rising, longer, one_on, placed_before, rises_on, target_here, Rises}
 use Rattle.run_serving.proofs.Assembling.{Assembled, assemble, nils}
-use Rattle.run_serving.proofs.Turning.{own_call}
+use Rattle.run_serving.proofs.Turning.{own_call, each_along, front_stable}
 
 -- ---- rounds are legal
 pub round_legal : (Size : List Capsule → ℕ → Type 0) (final : Bool) (queue : ℕ)
@@ -379,3 +384,92 @@ nothing_yet t queue (f ∷ files) = (refl, nothing_yet t (queue + 1) files)
 
 pub nothing_made : (t : Target) → HasMade 0 t nothing_edited
 nothing_made t = record { made_is = refl; no_drain = λ next. refl }
+
+-- ---- all of it
+module _ (own : BindingsAreOwn) (leaves : QueuesLeaveDesk) (plan : Plan) (passed_over : ℕ)
+    (start : Target) (script : List ScriptEdit) (fs : List CapsuleFile) (k0 k4 : Kept)
+    (os0 os3 : List Output) (e0 e1 : Edited) (places : ℕ) (o : Served) (st : StandsFor k0 start)
+    (fresh : AreFresh fs os0) (none : Journals e0 [])
+    (s : ServesInTurn script fs k0 os0 e0 k4 os3 e1 places) (outputs_are : o.outputs.items ≡ os3)
+    (journal_is : o.journal.items ≡ e1.lines.items) (places_are : o.places ≡ places)
+    (accepted_is : o.accepted ≡ e1.accepted) (refused_is : o.refused ≡ e1.refused)
+    (drains_are : o.drains ≡ e1.drains) where
+  number : (f : Output → ℕ) (g : Placed → ℕ) (lists : List (List Placed))
+      → ((x : Output) (list : List Placed) → Prints x list → f x ≡ sum_by g list)
+      → PrintEach os3 lists
+      → sum_by f o.outputs.items ≡ sum_by g (flat_map (λ (list : List Placed). list) lists)
+  number f g lists each prints = ap (λ (x : List Output). sum_by f x) outputs_are
+      ∙ sum_is f g each os3 lists prints
+
+  pub ran : Ran plan passed_over start script fs o
+  ran =
+      let files : List (List Capsule) = files_of fs in
+      let x1 = s.fronts start (nils files) st
+      (subst (λ (x : List (List Placed)). PrintEach os0 x) (nils_are fs) fresh.prints)
+      (nothing_yet start 1 files) in
+      let t1 : Target = after start (calls_of (all_of x1.groups)) in
+      let lists1 : List (List Placed) = joined 0 (nils files) x1.groups in
+      let x2 = s.edits t1 nothing_edited [] x1.stands none (nothing_made t1) in
+      let t2 : Target = after t1 (calls_of x2.group) in
+      let x3 = s.rests t2 lists1 x2.stands x1.prints
+      (each_along HasFront front_stable t1 t2 1 files lists1
+      (λ q le. edits_keep own script nothing_edited t1 x2.group q le x2.turns) x1.post) in
+      let t3 : Target = after t2 (calls_of (all_of x3.groups)) in
+      let lists2 : List (List Placed) = joined s.n2 lists1 x3.groups in
+      let x4 = s.finals t3 lists2 x3.stands x3.prints x3.post in
+      let lists3 : List (List Placed) = joined s.n3 lists2 x4.groups in
+      record {
+        run = record {
+          plan = plan;
+          start = start;
+          passed_over = passed_over;
+          script = script;
+          files = files;
+          editor = placed_from s.n1 x2.group;
+          queues = lists3;
+          history = all_of x1.groups ++ (x2.group ++ (all_of x3.groups ++ all_of x4.groups));
+        };
+        plan_is = refl;
+        passed_over_is = refl;
+        start_is = refl;
+        script_is = refl;
+        files_are = refl;
+        ordered = ordered leaves plan passed_over start script files x1.groups x2.group x3.groups
+            x4.groups s.n1 s.n2 s.n3 x1.round x2.legal x2.turns x3.round x4.round x4.post x2.post
+            x1.count x2.count x3.count;
+        served = served leaves plan passed_over start script files x1.groups x2.group x3.groups
+            x4.groups s.n1 s.n2 s.n3 x1.round x2.legal x2.turns x3.round x4.round x4.post x2.post
+            x1.count x2.count x3.count;
+        legal = legal leaves plan passed_over start script files x1.groups x2.group x3.groups
+            x4.groups s.n1 s.n2 s.n3 x1.round x2.legal x2.turns x3.round x4.round x4.post x2.post
+            x1.count x2.count x3.count;
+        in_turn = turn leaves plan passed_over start script files x1.groups x2.group x3.groups
+            x4.groups s.n1 s.n2 s.n3 x1.round x2.legal x2.turns x3.round x4.round x4.post x2.post
+            x1.count x2.count x3.count;
+        printed = record {
+          records = subst (λ (x : List Output). HoldRecords x lists3) (sym outputs_are)
+              (hold_records os3 lists3 x4.prints);
+          journal = journal_is ∙ x2.prints.lines;
+          places = places_are ∙ x4.count
+              ∙ places_len leaves plan passed_over start script files x1.groups x2.group x3.groups
+              x4.groups s.n1 s.n2 s.n3 x1.round x2.legal x2.turns x3.round x4.round x4.post x2.post
+              x1.count x2.count x3.count;
+          accepted = accepted_is ∙ x2.prints.accepted;
+          refused = refused_is ∙ x2.prints.refused;
+          drains = drains_are ∙ x2.prints.drains;
+          submitted = number (λ x. x.submitted) (λ p. submit_count p.entry.call) lists3
+              (λ x l p. p.submitted) x4.prints;
+          executed = number (λ x. x.executed) (λ p. execute_count p.entry.call) lists3
+              (λ x l p. p.executed) x4.prints;
+          commands_refused = number (λ x. x.refused) (λ p. refusal_count p.entry.call p.entry.reply)
+              lists3 (λ x l p. p.refused) x4.prints;
+          events = number (λ x. x.events) (λ p. event_count p.entry.call p.entry.reply) lists3
+              (λ x l p. p.events) x4.prints;
+          waiting = number (λ x. x.waiting) (λ p. waiting_count p.entry.reply) lists3
+              (λ x l p. p.waiting) x4.prints;
+          taken = number (λ x. x.taken) (λ p. payload_count p.entry.call) lists3
+              (λ x l p. p.taken) x4.prints;
+          given = number (λ x. x.given) (λ p. length p.entry.bytes) lists3
+              (λ x l p. p.given) x4.prints;
+        };
+      }

@@ -55,3 +55,10 @@ fresh_more fs i f os o lt is servable fresh prints calls records =
           (sym (map-append (λ (x : CapsuleFile). let l : List Placed = [] in l) (take i fs) (f ∷ [])))
           (prints_snoc os (empties (take i fs)) o [] fresh.prints prints);
     }))
+
+pub ready_len : (n : CapsuleFile → ℕ) (fs : List CapsuleFile) (os : List Output)
+    → AreReady n fs os → length os ≡ length fs
+ready_len n [] [] a = refl
+ready_len n [] (o ∷ os) a = absurd a
+ready_len n (f ∷ fs) [] a = absurd a
+ready_len n (f ∷ fs) (o ∷ os) a = ap (λ m. suc m) (ready_len n fs os a.1)

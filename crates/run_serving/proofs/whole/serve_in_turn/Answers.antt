@@ -1,7 +1,7 @@
 use Rattle.run_serving.proofs.whole.serve_in_turn.Goals as goal
 
-pub returns-clause-serves : goal.returns-clause-serves
-returns-clause-serves c = record {
+pub returns : goal.returns
+returns c = record { serves = record {
   k1 = c.serve_fronts-next.new.target;
   k2 = c.serve_script.new.target;
   k3 = c.serve_rests-next.new.target;
@@ -14,4 +14,4 @@ returns-clause-serves c = record {
   edits = c.in_ok-next.ensures.serves;
   rests = c.serve_rests-next.ensures.serves;
   finals = c.poll_all.ensures.serves;
-}
+} }
