@@ -2,3 +2,4 @@ pub mod Numbers
 pub mod Texts
 pub mod Outsides
 pub mod Written
+pub mod Names

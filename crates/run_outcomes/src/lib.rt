@@ -8,12 +8,14 @@
 #![tactic(auto)]
 
 mod faults;
+mod law;
 mod numbers;
 mod putting;
 mod report;
 mod writing;
 
 pub use faults::{At, Fault};
+pub use law::plans_have_apart_names;
 pub use numbers::{CONFIG, FileNo, JOURNAL, PLAN, SCRIPT, SINK, capsules_number, responses_number};
 pub use putting::put_text;
 pub use report::{put_line, put_usage};
