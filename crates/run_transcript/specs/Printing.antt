@@ -154,16 +154,19 @@ config_line n = codes "config " ++ decimal n ++ codes " passed over" ++ 10 ∷ [
 abbrev pub all_queues : Run → List Placed
 all_queues run = flat_map (λ list. list) run.queues
 
--- The seven lines. Edits and drains are counted by the journal's lines; an event request that no
--- event answered is counted as waiting.
+-- the seven lines: places; edits; drains; commands; events, of which those that wait are event
+-- requests that no event answered; bytes; what a configuration passes over
+abbrev pub summary_of : ℕ → ℕ → ℕ → ℕ → ℕ → ℕ → ℕ → ℕ → ℕ → ℕ → ℕ → ℕ → List ℕ
+summary_of places accepted refused drains submitted executed failed events waiting taken given
+    passed_over =
+    places_line places ++ edits_line accepted refused ++ drains_line drains
+    ++ commands_line submitted executed failed ++ events_line events (waiting - events)
+    ++ bytes_line taken given ++ config_line passed_over
+
+-- Edits and drains are counted by the lines of the journal, the rest by the records of all queues.
 unfoldable pub summary : Run → List ℕ
-summary run =
-    places_line (length run.history)
-    ++ edits_line (accepted_in run.editor) (refused_edits_in run.editor)
-    ++ drains_line (drains_in run.editor)
-    ++ commands_line (submits_in (all_queues run)) (executes_in (all_queues run))
-    (refusals_in (all_queues run))
-    ++ events_line (events_in (all_queues run))
-    (waiting_in (all_queues run) - events_in (all_queues run))
-    ++ bytes_line (bytes_taken (all_queues run)) (bytes_given (all_queues run))
-    ++ config_line run.passed_over
+summary run = summary_of (length run.history) (accepted_in run.editor)
+    (refused_edits_in run.editor) (drains_in run.editor) (submits_in (all_queues run))
+    (executes_in (all_queues run)) (refusals_in (all_queues run)) (events_in (all_queues run))
+    (waiting_in (all_queues run)) (bytes_taken (all_queues run)) (bytes_given (all_queues run))
+    run.passed_over
