@@ -1,5 +1,5 @@
 -- Writes one after another.
-use Rattle.std.proofs.Common.{◌≡◌, ◌≢◌, ◌≤◌, ℕ, ◌+◌, Bool, true, List, [], ◌∷◌, ◌++◌, take, Option, Some, None, Result, Ok, Err, refl, sym, ap, subst, ◌∙◌, arith}
+use Rattle.std.proofs.Common.{◌≡◌, ◌≢◌, ◌≤◌, ℕ, ◌+◌, Bool, true, List, [], ◌∷◌, ◌++◌, take, Option, Some, None, Result, Ok, Err, refl, sym, ap, subst, ◌∙◌, append_assoc, arith}
 use Rattle.std.proofs.lemmas.Bool.{le-leb}
 use Rattle.std.specs.List.{AllByRecursion}
 use Rattle.run_outside.specs.Outside.{Rose, rose, HoldsWritten}
@@ -136,3 +136,17 @@ writes_then w ws before mid after (Err f) apart tells le first rest =
           (λ e. all_at (λ v. w.name ≢ v.name) rest.done rest.here rest.rest all (sym e)) le others
           rest.fails;
     }
+
+-- the first write stopped, and so do all
+pub stops_more : (w : ToWrite) (ws : List ToWrite) (before after : FilesView) (f : Fault)
+    → StopsAt (w ∷ []) before after f → StopsAt (w ∷ ws) before after f
+stops_more w ws before after f s = record {
+  done = s.done;
+  here = s.here;
+  rest = s.rest ++ ws;
+  split = ap (λ (xs : List ToWrite). xs ++ ws) s.split
+      ∙ append_assoc s.done (s.here ∷ s.rest) ws;
+  written = s.written;
+  kept = s.kept;
+  fails = s.fails;
+}

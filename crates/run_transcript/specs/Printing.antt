@@ -125,30 +125,30 @@ journal run = journal_text (length run.history) (journal_lines run.editor)
 
 -- ---- the summary
 unfoldable pub places_line : ℕ → List ℕ
-places_line n = codes "places " ++ decimal n ++ 10 ∷ []
+places_line n = codes "places " ++ decimal n ++ codes "\n"
 
 unfoldable pub edits_line : ℕ → ℕ → List ℕ
 edits_line accepted refused = codes "edits " ++ decimal accepted ++ codes " accepted "
-    ++ decimal refused ++ codes " refused" ++ 10 ∷ []
+    ++ decimal refused ++ codes " refused\n"
 
 unfoldable pub drains_line : ℕ → List ℕ
-drains_line n = codes "drains " ++ decimal n ++ 10 ∷ []
+drains_line n = codes "drains " ++ decimal n ++ codes "\n"
 
 unfoldable pub commands_line : ℕ → ℕ → ℕ → List ℕ
 commands_line submitted executed refused = codes "commands " ++ decimal submitted
     ++ codes " submitted " ++ decimal executed ++ codes " executed " ++ decimal refused
-    ++ codes " refused" ++ 10 ∷ []
+    ++ codes " refused\n"
 
 unfoldable pub events_line : ℕ → ℕ → List ℕ
 events_line answered waiting = codes "events " ++ decimal answered ++ codes " answered "
-    ++ decimal waiting ++ codes " waiting" ++ 10 ∷ []
+    ++ decimal waiting ++ codes " waiting\n"
 
 unfoldable pub bytes_line : ℕ → ℕ → List ℕ
 bytes_line taken given = codes "bytes " ++ decimal taken ++ codes " in " ++ decimal given
-    ++ codes " out" ++ 10 ∷ []
+    ++ codes " out\n"
 
 unfoldable pub config_line : ℕ → List ℕ
-config_line n = codes "config " ++ decimal n ++ codes " passed over" ++ 10 ∷ []
+config_line n = codes "config " ++ decimal n ++ codes " passed over\n"
 
 -- what all queues did
 abbrev pub all_queues : Run → List Placed
