@@ -5,6 +5,8 @@ mod journal;
 mod status;
 mod stub;
 mod summary;
+mod words;
 mod writing;
 
 pub use status::Status;
+pub use words::{Words, WordsError, read_words};
