@@ -13,3 +13,4 @@ pub mod Stands
 pub mod Loads
 pub mod Lawful
 pub mod Simple
+pub mod SimpleEdits

@@ -15,6 +15,9 @@ mod edits;
 mod law;
 mod look;
 mod queues;
+mod simple;
+#[cfg(test)]
+mod simple_tests;
 mod start;
 mod target;
 #[cfg(test)]
@@ -29,5 +32,6 @@ pub use law::{
 };
 pub use look::TreeLook;
 pub use plan_files::MAX_QUEUES;
+pub use simple::simple_is_edited;
 pub use start::LoadError;
 pub use target::Target;
