@@ -36,12 +36,7 @@ fn made(folder: Folder) -> Edit
 }
 
 // The edit that writes a value into an attribute.
-fn written(
-    alloc: Global,
-    folder: Folder,
-    attr: Attr,
-    value: &[u8],
-) -> Result<Edit, AllocError>
+fn written(alloc: Global, folder: Folder, attr: Attr, value: &[u8]) -> Result<Edit, AllocError>
     ensures { IfOk result (λ e. e ≡ written folder attr value.now) }
 {
     let value = Name::copied(alloc, value)?;
@@ -52,16 +47,13 @@ fn written(
 fn simple_edits(alloc: Global, path: &[u8]) -> Result<[Edit; 8], AllocError>
     ensures { IfOk result (λ edits. edits ≡ simple_edits path.now) }
 {
-    let any_host = written(
-        alloc,
-        Folder::Subsystem(simple_nqn()),
-        Attr::AllowAnyHost,
-        b"1",
-    )?;
-    let device = Folder::Namespace(simple_nqn(), 1);
-    let device_path = written(alloc, device, Attr::DevicePath, path)?;
+    let sub = Folder::Subsystem(simple_nqn());
+    let any_host = written(alloc, sub, Attr::AllowAnyHost, b"1")?;
+    let off = Folder::Namespace(simple_nqn(), 1);
+    let device_path = written(alloc, off, Attr::DevicePath, path)?;
     let trtype = written(alloc, Folder::Port(1), Attr::Trtype, b"loop")?;
-    let enable = written(alloc, Folder::Namespace(simple_nqn(), 1), Attr::Enable, b"1")?;
+    let on = Folder::Namespace(simple_nqn(), 1);
+    let enable = written(alloc, on, Attr::Enable, b"1")?;
     Ok([
         made(Folder::Subsystem(simple_nqn())),
         any_host,

@@ -77,6 +77,7 @@ fn completes(rt: &impl Abort, reply: &Reply, status: u16) {
 fn the_last_block_is_read(rt: HostRuntime) -> Result<(), Fail> {
     let alloc = rt.alloc();
     let mut target = simple(&rt, alloc);
+    assert_eq!(rt; target.queues(), 1);
     assert_eq!(rt; target.binding(1).port, 1);
     assert_eq!(rt; submitted(&rt, &mut target, &READ), Reply::Held);
     assert!(rt; target.is_held(1, 0));
