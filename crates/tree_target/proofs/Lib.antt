@@ -13,3 +13,4 @@ pub mod Simples
 pub mod Singles
 pub mod SimpleSteps
 pub mod SimpleEdits
+pub mod PlanDisks

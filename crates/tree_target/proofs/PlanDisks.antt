@@ -1,10 +1,9 @@
 -- What each line of a plan keeps of its disks and its queues.
-use Rattle.std.proofs.Common.{◌≡◌, ◌≤◌, ◌⊎◌, ℕ, ◌^◌, ◌*◌, Bool, true, false, not, ◌&&◌, ◌||◌, ◌==◌, nat_le, nat_lt, IsTrue, List, [], ◌∷◌, ◌++◌, length, map, refl, sym, ap, subst, ◌∙◌, inl, inr, arith}
+use Rattle.std.proofs.Common.{◌≡◌, ◌≤◌, ◌⊎◌, ℕ, ◌^◌, ◌*◌, Bool, true, false, not, ◌&&◌, ◌||◌, ◌==◌, nat_le, nat_lt, List, [], ◌∷◌, ◌++◌, length, map, refl, sym, ap, subst, ◌∙◌, inl, inr, arith}
 use Rattle.std.specs.List.{AllByRecursion, list_any}
 use Rattle.std.specs.Str.{bytes_eq}
 use Rattle.std.proofs.lemmas.Bool.{leb-true, le-leb, eqb-true, both_ways}
 use Rattle.std.proofs.lemmas.List.Elements.{All-from_recursion}
-use Rattle.mem_bdev.specs.Blocks.{IsShape}
 use Rattle.mem_bdev.specs.declared.disk.DiskLine.{DiskLine}
 use Rattle.plan_files.specs.declared.items.Item.{Item}
 use Rattle.plan_files.specs.declared.items.Item.TheVariants.{Simple, Disk, Config, Script, Journal, Queue}
@@ -15,7 +14,7 @@ use Rattle.plan_files.specs.Plans.{IsAllowed, Makes, no_plan, with_item, is_new,
 use Rattle.configfs_rows.specs.Holders.{are_apart}
 use Rattle.configfs_tree.specs.Start.{line_path}
 use Rattle.configfs_tree.proofs.Decided.{left_false, right_false, both}
-use Rattle.tree_target.specs.PlanDisks.{IsPlanDisk, FitsTarget, PlansFitTargets}
+use Rattle.tree_target.specs.PlanDisks.{IsPlanDisk, PlansFitTargets}
 use Rattle.tree_target.proofs.HeldList.{both_true}
 
 not_true : (b : Bool) → not b ≡ true → b ≡ false

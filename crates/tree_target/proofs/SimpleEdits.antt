@@ -1,5 +1,5 @@
 -- The edits of a simple plan make its tree.
-use Rattle.std.proofs.Common.{◌≡◌, ◌&&◌, ◌==◌, ◌<◌, slice_index, ℕ, not, true, Bool, IsTrue, List, [], ◌∷◌, codes, refl, sym, ap, ◌∙◌, arith}
+use Rattle.std.proofs.Common.{◌≡◌, ◌&&◌, ◌==◌, ◌<◌, slice_index, ℕ, not, true, Bool, IsTrue, List, [], ◌∷◌, refl, ap, ◌∙◌, arith}
 use Rattle.std.specs.List.{list_all, list_any, All}
 use Rattle.std.proofs.lemmas.List.Elements.{All-same, All-from_recursion}
 use Rattle.std.specs.Char.{is_ascii_graphic}
@@ -9,8 +9,6 @@ use Rattle.std.specs.Cmp.Lexicographic.{nat_list_cmp_total}
 use Rattle.std.specs.FinMap.{nat_cmp-IsAntisymmetric}
 use Rattle.mem_bdev.specs.declared.disk.DiskLine.{DiskLine}
 use Rattle.plan_files.specs.Spelling.{is_name}
-use Rattle.configfs_rows.specs.Ports.{fresh_port}
-use Rattle.configfs_rows.specs.Rows.{fresh_namespace}
 use Rattle.configfs_rows.specs.declared.limits.TheConstants.{MAX_CONTROLLERS}
 use Rattle.configfs_rows.specs.declared.subsystems.SubsystemRow.{SubsystemRow}
 use Rattle.configfs_rows.specs.declared.ports.PortRow.{PortRow}
@@ -26,10 +24,10 @@ use Rattle.configfs_tree.proofs.Kept.{names_same}
 use Rattle.tree_target.specs.Start.{simple_nqn, simple_subsystem, simple_port, simple_tree}
 use Rattle.tree_target.specs.Edits.{Edit, is_well_formed}
 use Rattle.tree_target.specs.Loads.{Loaded, RefusedEdit, LoadedTree, load_on, load_from, loaded}
-use Rattle.tree_target.specs.SimpleEdits.{simple_edits, unattached, IsMadeByEdits, SimpleIsEdited}
+use Rattle.tree_target.specs.SimpleEdits.{simple_edits, unattached, SimpleIsEdited}
 use Rattle.tree_target.proofs.HeldList.{both_true}
 use Rattle.tree_target.proofs.Singles.{values_single}
-use Rattle.tree_target.proofs.SimpleSteps.{tree_of, one_sub, one_port, fresh_sub, open_sub, with_space, on_path, looped, makes_subsystem, allows_any, makes_namespace, sets_path, makes_port, sets_trtype, links, enables}
+use Rattle.tree_target.proofs.SimpleSteps.{one_sub, one_port, with_space, on_path, makes_subsystem, allows_any, makes_namespace, sets_path, makes_port, sets_trtype, links, enables}
 
 -- ---- a name of a plan is a device path
 all_along : (p q : ℕ → Bool) → ((x : ℕ) → p x ≡ true → q x ≡ true) → (xs : List ℕ)

@@ -1,5 +1,5 @@
 -- Each edit of a simple plan, at the tree that the edits before it leave.
-use Rattle.std.proofs.Common.{◌≡◌, ◌==◌, ◌<◌, ◌+◌, ℕ, Bool, true, false, cond, not, nat_lt, IsTrue, List, [], ◌∷◌, codes, Option, Some, None, is_some, refl, sym, ap, ◌∙◌, lit<}
+use Rattle.std.proofs.Common.{◌≡◌, ◌==◌, ◌+◌, ℕ, Bool, true, false, cond, not, nat_lt, List, [], ◌∷◌, codes, Option, Some, None, is_some, refl, ap, ◌∙◌, lit<}
 use Rattle.std.specs.List.{AllByRecursion, list_any}
 use Rattle.std.specs.Str.{bytes_eq}
 use Rattle.std.specs.Ordering.{nat_cmp}
@@ -14,7 +14,6 @@ use Rattle.configfs_rows.specs.Maps.{update_at}
 use Rattle.configfs_rows.specs.Rows.{fresh_namespace, put_in}
 use Rattle.configfs_rows.specs.Subsystems.{fresh_subsystem, add_namespace, put_in_subsystem, put_namespace}
 use Rattle.configfs_rows.specs.Ports.{fresh_port, with_address, put_link}
-use Rattle.configfs_rows.specs.Places.{lowest_free}
 use Rattle.configfs_rows.specs.Holders.{disk_of, holder_of, is_holder, hold, number_of}
 use Rattle.configfs_rows.specs.declared.limits.TheConstants.{MAX_SUBSYSTEMS, MAX_PORTS}
 use Rattle.configfs_rows.specs.declared.disks.DiskRow.{DiskRow}
@@ -29,11 +28,10 @@ use Rattle.configfs_rows.specs.declared.ports.PortRow.{PortRow}
 use Rattle.configfs_rows.proofs.LowFree.{low_free}
 use Rattle.configfs_tree.specs.declared.edits.Errno.{Errno}
 use Rattle.configfs_tree.specs.declared.edits.Touched.TheVariants as touches
-use Rattle.configfs_tree.specs.declared.configuration.Settings.{Settings}
 use Rattle.configfs_tree.specs.declared.configuration.Configuration.{Configuration}
 use Rattle.configfs_tree.specs.Asked.{subsystem_place_taken, port_place_taken}
 use Rattle.configfs_tree.specs.NamespaceRows.{paired, rows_in}
-use Rattle.configfs_tree.specs.Outcome.{Outcome, Refuses, Accepts, first_of, either, unless_stands, touching, namespace_change, if_subsystem, if_rows, if_port, in_subsystem, in_namespace, in_port}
+use Rattle.configfs_tree.specs.Outcome.{Outcome, Refuses, Accepts, first_of, either, unless_stands, touching, namespace_change, if_subsystem, if_rows, if_port}
 use Rattle.configfs_tree.specs.Start.{empty_settings}
 use Rattle.configfs_tree.specs.Table.{mkdir_subsystem, mkdir_namespace, mkdir_port, set_attr_allow_any_host, set_device_path, set_addr_trtype, set_enable}
 use Rattle.configfs_tree.proofs.Kept.{names_same}

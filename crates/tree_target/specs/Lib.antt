@@ -14,3 +14,4 @@ pub mod Loads
 pub mod Lawful
 pub mod Simple
 pub mod SimpleEdits
+pub mod PlanDisks

@@ -7,7 +7,6 @@ use Rattle.configfs_tree.specs.declared.edits.Attr.TheVariants as attr
 use Rattle.configfs_tree.specs.declared.edits.Folder.{Folder}
 use Rattle.configfs_tree.specs.declared.edits.Folder.TheVariants as folder
 use Rattle.configfs_tree.specs.declared.edits.FolderEdit.TheVariants as make
-use Rattle.configfs_tree.specs.declared.configuration.Settings.{Settings}
 use Rattle.configfs_tree.specs.declared.configuration.Configuration.{Configuration}
 use Rattle.configfs_tree.specs.Links.{with_attached, with_no_changes}
 use Rattle.configfs_tree.specs.Start.{empty_settings}
