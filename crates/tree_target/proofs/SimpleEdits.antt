@@ -24,7 +24,7 @@ use Rattle.configfs_tree.proofs.Kept.{names_same}
 use Rattle.tree_target.specs.Start.{simple_nqn, simple_subsystem, simple_port, simple_tree}
 use Rattle.tree_target.specs.Edits.{Edit, is_well_formed}
 use Rattle.tree_target.specs.Loads.{Loaded, RefusedEdit, LoadedTree, load_on, load_from, loaded}
-use Rattle.tree_target.specs.SimpleEdits.{simple_edits, unattached, SimpleIsEdited}
+use Rattle.tree_target.specs.SimpleEdits.{simple_edits, tree_before_attach, SimpleIsEdited}
 use Rattle.tree_target.proofs.HeldList.{both_true}
 use Rattle.tree_target.proofs.Singles.{values_single}
 use Rattle.tree_target.proofs.SimpleSteps.{one_sub, one_port, with_space, on_path, makes_subsystem, allows_any, makes_namespace, sets_path, makes_port, sets_trtype, links, enables}
@@ -56,22 +56,22 @@ named_is_text path named = all_along is_ascii_graphic is_text_byte printable pat
     (both_true _ _ named).1
 
 -- ---- loading
-accepted : (n : ℕ) (o : Outcome) (u : Configuration) (change : Change)
+goes_on : (n : ℕ) (o : Outcome) (u : Configuration) (change : Change)
     (rest : Configuration → Loaded) → o ≡ Accepts u change → load_on n o rest ≡ rest u
-accepted n o u change rest e = ap (λ (x : Outcome). load_on n x rest) e
+goes_on n o u change rest e = ap (λ (x : Outcome). load_on n x rest) e
 
 pub loads_simple : (d : DiskLine) → IsTrue (is_name d.path)
-    → loaded (d ∷ []) (simple_edits d.path) ≡ LoadedTree (unattached d.path)
+    → loaded (d ∷ []) (simple_edits d.path) ≡ LoadedTree (tree_before_attach d.path)
 loads_simple d named =
     let path = d.path in
-    accepted 1 _ _ _ _ (makes_subsystem path)
-    ∙ (accepted 2 _ _ _ _ (allows_any path)
-    ∙ (accepted 3 _ _ _ _ (makes_namespace path)
-    ∙ (accepted 4 _ _ _ _ (sets_path path (named_is_path path named))
-    ∙ (accepted 5 _ _ _ _ (makes_port path (one_sub (with_space (on_path path))))
-    ∙ (accepted 6 _ _ _ _ (sets_trtype path (one_sub (with_space (on_path path))))
-    ∙ (accepted 7 _ _ _ _ (links path (with_space (on_path path)))
-    ∙ accepted 8 _ _ _ _ (enables path (one_port simple_port))))))))
+    goes_on 1 _ _ _ _ (makes_subsystem path)
+    ∙ (goes_on 2 _ _ _ _ (allows_any path)
+    ∙ (goes_on 3 _ _ _ _ (makes_namespace path)
+    ∙ (goes_on 4 _ _ _ _ (sets_path path (named_is_path path named))
+    ∙ (goes_on 5 _ _ _ _ (makes_port path (one_sub (with_space (on_path path))))
+    ∙ (goes_on 6 _ _ _ _ (sets_trtype path (one_sub (with_space (on_path path))))
+    ∙ (goes_on 7 _ _ _ _ (links path (with_space (on_path path)))
+    ∙ goes_on 8 _ _ _ _ (enables path (one_port simple_port))))))))
 
 pub simple_edited : SimpleIsEdited
 simple_edited d named = record { loads = loads_simple d named; attached = refl }
@@ -86,7 +86,7 @@ edits_fit path edits is named =
 
 pub loads_edited : (d : DiskLine) (lines : List DiskLine) (empty : Configuration)
     (edits : List Edit) → lines ≡ d ∷ [] → empty ≡ empty_tree lines → edits ≡ simple_edits d.path
-    → IsTrue (is_name d.path) → load_from 1 empty edits ≡ LoadedTree (unattached d.path)
+    → IsTrue (is_name d.path) → load_from 1 empty edits ≡ LoadedTree (tree_before_attach d.path)
 loads_edited d lines empty edits one is made named =
     ap (λ (t : Configuration). load_from 1 t edits) (is ∙ ap empty_tree one)
     ∙ (ap (load_from 1 (empty_tree (d ∷ []))) made ∙ loads_simple d named)
@@ -99,32 +99,32 @@ pub not_refused : (t : Configuration) (n : ℕ) (errno : Errno) → LoadedTree t
 not_refused t n errno e = cc
 
 -- ---- the controller
-pub subsystem_in_use : (t : Configuration) (path : List ℕ) → t ≡ unattached path
+pub subsystem_in_use : (t : Configuration) (path : List ℕ) → t ≡ tree_before_attach path
     → IsTrue (subsystem_place_taken t 0)
 subsystem_in_use t path e = ap (λ (x : Configuration). subsystem_place_taken x 0) e
     ∙ ap (list_any (λ (s : SubsystemRow). s.at == 0))
     (values_single nat_list_cmp_total names_same simple_nqn (simple_subsystem path))
 
-pub port_in_use : (t : Configuration) (path : List ℕ) → t ≡ unattached path
+pub port_in_use : (t : Configuration) (path : List ℕ) → t ≡ tree_before_attach path
     → IsTrue (port_place_taken t 0)
 port_in_use t path e = ap (λ (x : Configuration). port_place_taken x 0) e
     ∙ ap (list_any (λ (p : PortRow). p.at == 0))
     (values_single nat_cmp_total nat_cmp-IsAntisymmetric 1 simple_port)
 
-pub subsystem_room : (t : Configuration) (path : List ℕ) → t ≡ unattached path
+pub subsystem_room : (t : Configuration) (path : List ℕ) → t ≡ tree_before_attach path
     → slice_index t.settings.attached.subsystems 0 < MAX_CONTROLLERS
 subsystem_room t path e =
     let n : slice_index t.settings.attached.subsystems 0 ≡ 0 =
     ap (λ (x : Configuration). slice_index x.settings.attached.subsystems 0) e in
     omega (arith, n)
 
-pub port_room : (t : Configuration) (path : List ℕ) → t ≡ unattached path
+pub port_room : (t : Configuration) (path : List ℕ) → t ≡ tree_before_attach path
     → slice_index t.settings.attached.ports 0 < MAX_CONTROLLERS
 port_room t path e =
     let n : slice_index t.settings.attached.ports 0 ≡ 0 =
     ap (λ (x : Configuration). slice_index x.settings.attached.ports 0) e in
     omega (arith, n)
 
-pub attached_is : (t u : Configuration) (path : List ℕ) → t ≡ unattached path
+pub attached_is : (t u : Configuration) (path : List ℕ) → t ≡ tree_before_attach path
     → u ≡ with_attached t 0 0 → u ≡ simple_tree path
 attached_is t u path e f = f ∙ ap (λ (x : Configuration). with_attached x 0 0) e

@@ -108,8 +108,8 @@ with_space n = record open_sub { namespaces = single 1 n }
 abbrev pub on_path : List ℕ → NamespaceRow
 on_path path = record fresh_namespace { device_path = Some path; disk = Some 0 }
 
-abbrev pub looped : PortRow
-looped = record (fresh_port 1 0) { trtype = codes "loop" }
+abbrev pub loop_port : PortRow
+loop_port = record (fresh_port 1 0) { trtype = codes "loop" }
 
 -- ---- the subsystem
 pub makes_subsystem : (path : List ℕ)
@@ -205,7 +205,7 @@ makes_port path subs =
 
 pub sets_trtype : (path : List ℕ) (subs : Rows)
     → set_addr_trtype (tree_of path None subs (one_port (fresh_port 1 0))) 1 (codes "loop")
-    ≡ Accepts (tree_of path None subs (one_port looped)) (touching (touches.Port 0))
+    ≡ Accepts (tree_of path None subs (one_port loop_port)) (touching (touches.Port 0))
 unfolding set_addr_trtype unless_stands
 sets_trtype path subs =
     at_port _ 1 (fresh_port 1 0) _ (port_of (fresh_port 1 0))
@@ -215,15 +215,15 @@ sets_trtype path subs =
     (with_address Trtype (codes "loop"))))
 
 pub links : (path : List ℕ) (s : SubsystemRow)
-    → link_subsystem (tree_of path None (one_sub s) (one_port looped)) 1 simple_nqn
+    → link_subsystem (tree_of path None (one_sub s) (one_port loop_port)) 1 simple_nqn
     ≡ Accepts (tree_of path None (one_sub s) (one_port simple_port)) (touching (touches.Port 0))
 unfolding link_subsystem
 links path s =
-    at_port _ 1 looped _ (port_of looped)
+    at_port _ 1 loop_port _ (port_of loop_port)
     ∙ (in_sub _ simple_nqn s _ (sub_of s)
     ∙ (passes _ _ (ap is_some (map.get-empty {X = Unit {0}} name_order simple_nqn), (refl, tt))
     ∙ ap (λ (m : Ports). Accepts (tree_of path None (one_sub s) m) (touching (touches.Port 0)))
-    (update_single nat_cmp_total nat_cmp-IsAntisymmetric 1 looped (put_link simple_nqn true))))
+    (update_single nat_cmp_total nat_cmp-IsAntisymmetric 1 loop_port (put_link simple_nqn true))))
 
 -- ---- the namespace enabled
 abbrev free_row : List ℕ → DiskRow

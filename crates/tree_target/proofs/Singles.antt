@@ -22,9 +22,9 @@ no_entries K X R = nil_of_length _ (sym (map.len-entries (map.empty {X = X} {R =
 pub no_values : (K X : Type 0) (R : K → K → Ordering) → map.values (map.empty {X = X} {R = R}) ≡ []
 no_values K X R = ap (λ (es : List (K × X)). each (λ e. e.1) es) (no_entries K X R)
 
-shadowed : {A : Type 0} (b : Bool) (x y z : A) → cond b y (cond b x z) ≡ cond b y z
-shadowed true x y z = refl
-shadowed false x y z = refl
+cond_again : {A : Type 0} (b : Bool) (x y z : A) → cond b y (cond b x z) ≡ cond b y z
+cond_again true x y z = refl
+cond_again false x y z = refl
 
 module _ {K X : Type 0} {R : K → K → Ordering} (o : IsTotalOrder R) (same : IsAntisymmetric R) where
   pub get_single : (k : K) (x : X) → map.get (single {R = R} k x) k ≡ Some x
@@ -34,14 +34,14 @@ module _ {K X : Type 0} {R : K → K → Ordering} (o : IsTotalOrder R) (same : 
   values_single k x = ap (λ (es : List (K × X)). each (λ e. e.1) es)
       (map.entries-insert o (map.empty {X = X} {R = R}) k x ∙ ap (put R k x) (no_entries K X R))
 
-  replaced : (k : K) (x y : X) → map.insert (single {R = R} k x) k y ≡ single k y
-  replaced k x y = map.same_map o same _ _ (λ q.
+  insert_again : (k : K) (x y : X) → map.insert (single {R = R} k x) k y ≡ single k y
+  insert_again k x y = map.same_map o same _ _ (λ q.
       map.get-insert o (single {R = R} k x) k y q
       ∙ ap (cond (eq_by_cmp R q k) (Some y)) (map.get-insert o (map.empty {X = X} {R = R}) k x q)
-      ∙ shadowed (eq_by_cmp R q k) (Some x) (Some y) (map.get (map.empty {X = X} {R = R}) q)
+      ∙ cond_again (eq_by_cmp R q k) (Some x) (Some y) (map.get (map.empty {X = X} {R = R}) q)
       ∙ sym (map.get-insert o (map.empty {X = X} {R = R}) k y q))
 
   pub update_single : (k : K) (x : X) (f : X → X) → update_at (single {R = R} k x) k f
       ≡ single k (f x)
   update_single k x f = ap (updated (single {R = R} k x) k f) (get_single k x)
-      ∙ replaced k x (f x)
+      ∙ insert_again k x (f x)

@@ -3,7 +3,7 @@ ghost use Rattle.std.specs.Prelude.{◌≡◌, ℕ, IfOk, IsTrue, length};
 ghost use Rattle.mem_bdev.specs.Blocks.{IsShape};
 ghost use Rattle.plan_files.specs.Spelling.{is_name};
 ghost use Rattle.tree_target.specs.Kept.{IsIdle};
-ghost use Rattle.tree_target.specs.SimpleEdits.{SimpleIsEdited, made, simple_edits, unattached, written};
+ghost use Rattle.tree_target.specs.SimpleEdits.{SimpleIsEdited, mkdir_edit, simple_edits, tree_before_attach, set_edit};
 ghost use Rattle.tree_target.specs.Stands.{StandsFor};
 ghost use Rattle.tree_target.specs.Start.{simple_nqn, simple_start, simple_tree};
 
@@ -29,15 +29,15 @@ fn simple_nqn() -> Nqn
 }
 
 // The edit that makes a folder.
-fn made(folder: Folder) -> Edit
-    ensures { result ≡ made folder }
+fn mkdir_edit(folder: Folder) -> Edit
+    ensures { result ≡ mkdir_edit folder }
 {
     Edit::Folder(FolderEdit::Mkdir(folder))
 }
 
 // The edit that writes a value into an attribute.
-fn written(alloc: Global, folder: Folder, attr: Attr, value: &[u8]) -> Result<Edit, AllocError>
-    ensures { IfOk result (λ e. e ≡ written folder attr value.now) }
+fn set_edit(alloc: Global, folder: Folder, attr: Attr, value: &[u8]) -> Result<Edit, AllocError>
+    ensures { IfOk result (λ e. e ≡ set_edit folder attr value.now) }
 {
     let value = Name::copied(alloc, value)?;
     Ok(Edit::Folder(FolderEdit::Set(folder, attr, value)))
@@ -48,18 +48,18 @@ fn simple_edits(alloc: Global, path: &[u8]) -> Result<[Edit; 8], AllocError>
     ensures { IfOk result (λ edits. edits ≡ simple_edits path.now) }
 {
     let sub = Folder::Subsystem(simple_nqn());
-    let any_host = written(alloc, sub, Attr::AllowAnyHost, b"1")?;
-    let off = Folder::Namespace(simple_nqn(), 1);
-    let device_path = written(alloc, off, Attr::DevicePath, path)?;
-    let trtype = written(alloc, Folder::Port(1), Attr::Trtype, b"loop")?;
-    let on = Folder::Namespace(simple_nqn(), 1);
-    let enable = written(alloc, on, Attr::Enable, b"1")?;
+    let any_host = set_edit(alloc, sub, Attr::AllowAnyHost, b"1")?;
+    let space = Folder::Namespace(simple_nqn(), 1);
+    let device_path = set_edit(alloc, space, Attr::DevicePath, path)?;
+    let trtype = set_edit(alloc, Folder::Port(1), Attr::Trtype, b"loop")?;
+    let space = Folder::Namespace(simple_nqn(), 1);
+    let enable = set_edit(alloc, space, Attr::Enable, b"1")?;
     Ok([
-        made(Folder::Subsystem(simple_nqn())),
+        mkdir_edit(Folder::Subsystem(simple_nqn())),
         any_host,
-        made(Folder::Namespace(simple_nqn(), 1)),
+        mkdir_edit(Folder::Namespace(simple_nqn(), 1)),
         device_path,
-        made(Folder::Port(1)),
+        mkdir_edit(Folder::Port(1)),
         trtype,
         Edit::Link(LinkEdit::LinkSubsystem(1, simple_nqn())),
         enable,
@@ -69,7 +69,7 @@ fn simple_edits(alloc: Global, path: &[u8]) -> Result<[Edit; 8], AllocError>
 // What the edits make of the empty tree over the disk.
 fn edited_tree(alloc: Global, disk: &DiskLine) -> Result<Tree, AllocError>
     requires { IsTrue (is_name disk.now.path) }
-    ensures { IfOk result (λ t. t ≡ unattached disk.now.path) }
+    ensures { IfOk result (λ t. t ≡ tree_before_attach disk.now.path) }
 {
     let edits = simple_edits(alloc, disk.path.as_bytes())?;
     let empty = Tree::new(alloc, slice::from_ref(disk))?;
