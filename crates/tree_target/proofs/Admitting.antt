@@ -82,13 +82,13 @@ same_view k t port c m hs hp st b =
     ∙ sym (row_of_port k.tree port c.port hp b.at_port))
 
 -- ---- the binding of a queue
-abbrev Both : Configuration → Option CodeBinding → Option Binding → Type 0
+abbrev pub Both : Configuration → Option CodeBinding → Option Binding → Type 0
 Both t None None = Unit {0}
 Both t None (Some m) = ⊥
 Both t (Some c) None = ⊥
 Both t (Some c) (Some m) = (m.port ≡ c.port) × IsBoundAs t m.port c.bound m.bound
 
-both_at : (t : Configuration) (cs : List CodeBinding) (ms : List Binding) (i : ℕ)
+pub both_at : (t : Configuration) (cs : List CodeBinding) (ms : List Binding) (i : ℕ)
     → AreBound t cs ms → Both t (slice_get cs i) (slice_get ms i)
 both_at t [] [] i b = tt
 both_at t [] (m ∷ ms) i b = absurd b
@@ -260,6 +260,7 @@ held_kept k room room' queue number cid e job s wide h idle a =
       few_disks = s.few_disks;
       few_queues = s.few_queues;
       room = omega (arith, r, wide);
+      joined = s.joined;
     }
 
 pub held_room : (k : Kept) (room queue number cid : ℕ) (job : Job) → IsKept k room
@@ -339,16 +340,4 @@ admin_does k queue number e to hs hp h = record {
   does = refused_does k queue number e INVALID_OPCODE hs hp (admin_refused k queue e h);
   appends = none_appended to;
   short = omega arith;
-}
-
--- ---- fabrics commands
-pub control_does : (k : Kept) (queue number : ℕ) (e : Sqe) (payload : List ℕ)
-    → Simulates k (Control queue number e payload)
-    (answered (qid_from (bound_in k.bindings queue)) e.cid INVALID_OPCODE) [] k
-unfolding reply_of bytes_of changed
-control_does k queue number e payload t st = record {
-  lawful = refl;
-  reply_is = ap (λ (q : ℕ). answered q e.cid INVALID_OPCODE) (qid_is k t queue st);
-  bytes_are = refl;
-  stands = stands_after k t t (Control queue number e payload) refl st;
 }

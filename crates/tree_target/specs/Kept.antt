@@ -25,6 +25,7 @@ use Rattle.plan_files.specs.Rooms.{data_room}
 use Rattle.tree_target.specs.Model.{is_command}
 use Rattle.tree_target.specs.Steps.{bytes_executed}
 use Rattle.tree_target.specs.Looked.{tree_answers}
+use Rattle.tree_target.specs.Joined.{AreJoined}
 
 -- bindings go by positions here
 pub record Kept : Type 0 where
@@ -111,6 +112,7 @@ pub record IsKept (k : Kept) (held_room : ℕ) : Type 0 where
   pub few_disks : length k.blocks ≤ MAX_DISKS
   pub few_queues : length k.bindings ≤ MAX_QUEUES
   pub room : MAX_QUEUES ≤ held_room
+  pub joined : AreJoined k.tree k.controllers k.bindings
 
 abbrev pub is_of : ℕ → Command → Bool
 is_of queue h = h.queue == queue

@@ -13,6 +13,7 @@ use crate::commands::{take_command, work};
 use crate::look::TreeLook;
 use crate::target::{Target, complete};
 use configfs_tree::{port_positions, subsystem_positions};
+use fabrics_connect::control;
 use io_commands::{Admit, admit_io};
 use mem_bdev::Buffer;
 use sqe_cqe::{Bound, INVALID_OPCODE, SUCCESS, Sqe};
@@ -140,9 +141,10 @@ impl Target {
         Reply::NoEvent
     }
 
-    /// A fabrics command (opcode 7Fh), with as many bytes of data as a Connect's SGL length says:
-    /// no queue can be connected yet, so it is refused. The queue's last command was executed.
-    /// Takes no memory.
+    /// A fabrics command (opcode 7Fh) on a queue: Connect, Property Get or Property Set, with as many
+    /// bytes of data as a Connect's SGL length says. The first check that fails answers with its
+    /// status and result, and changes nothing (`fabrics_connect::control`). The queue's last
+    /// command was executed. Takes no memory.
     pub fn control(&mut self, queue: u32, number: u32, e: &Sqe, payload: &[u8]) -> Reply
         requires opcode { e.now.opcode ≡ FABRICS }
         requires payload { direction_of e.now ≡ ToController →
@@ -155,7 +157,18 @@ impl Target {
         ensures idle { IsIdle self.new queue }
         ensures others { LeavesOthers queue self.old self.new }
     {
-        let _input = (number, payload.len());
-        complete(self.qid(queue), e.cid, INVALID_OPCODE)
+        let _number = number;
+        self.tree.certify();
+        let at = queue as usize - 1;
+        let mut binding = self.bindings[at];
+        let told = control(
+            &mut self.tree,
+            &mut self.controllers,
+            &mut binding,
+            e,
+            payload,
+        );
+        self.bindings[at] = binding;
+        Reply::Answered(told.cqe)
     }
 }
