@@ -1,7 +1,9 @@
 -- What a queue sees by positions is what it sees by names, and what it submits gets.
 use Rattle.std.proofs.Common.{◌≡◌, ℕ, zero, suc, ◌≤◌, ◌==◌, ◌&&◌, is_some, IsTrue, Bool, true, false, cond, List, [], ◌∷◌, ◌++◌, length, Option, Some, None, refl, sym, ap, subst, ◌∙◌, slice_get, arith}
 use Rattle.std.specs.List.{find}
+use Rattle.std.proofs.lemmas.List.{append-nil}
 use Rattle.mem_bdev.specs.Blocks.{Blocks}
+use Rattle.mem_bdev.specs.Texts.{Text, appended}
 use Rattle.mem_bdev.specs.declared.limits.TheConstants.{MAX_TRANSFER}
 use Rattle.sqe_cqe.specs.declared.sqe.Sqe.{Sqe}
 use Rattle.sqe_cqe.specs.declared.codes.TheConstants.{INVALID_OPCODE}
@@ -31,9 +33,9 @@ use Rattle.tree_target.specs.Views.{space_in, row_of, on_blocks, on_disk, seen_o
 use Rattle.tree_target.specs.Looked.{tree_answers}
 use Rattle.tree_target.specs.Admission.{Holds, refused, of_admit, of_qid, of_bound, of_binding, admission}
 use Rattle.tree_target.specs.Steps.{reply_of, bytes_of, changed, submitted, bytes_submitted, after_submit, command_of}
-use Rattle.tree_target.specs.Kept.{Kept, HasQueue, IsKept, IsNumbered, IsIdle, IsHolding, LeavesOthers, Fits, FitsOn, HasDataOn, HasDataOf, given_on, given_of, AdmitsOn, AdmitFits, bound_from, bound_in, qid_from, by_qid, by_bound, admission_by, answered, is_of}
-use Rattle.tree_target.specs.Stands.{IsBound, IsBoundAs, AreBound, StandsFor, Simulates}
-use Rattle.tree_target.proofs.HeldList.{own_command, last_found, snoc_other, idle_command, all_snoc, single_snoc, room_for, eqb_apart}
+use Rattle.tree_target.specs.Kept.{Kept, HasQueue, IsKept, IsNumbered, IsIdle, IsHolding, LeavesOthers, Fits, FitsOn, HasDataOn, HasDataOf, given_on, given_of, AdmitsOn, AdmitFits, bound_from, bound_in, qid_from, by_qid, by_bound, admission_by, answered, is_of, is_admin_bound, is_admin_in}
+use Rattle.tree_target.specs.Stands.{IsBound, IsBoundAs, AreBound, StandsFor, Simulates, SubmitsAdmin}
+use Rattle.tree_target.proofs.HeldList.{own_command, last_found, snoc_other, idle_command, all_snoc, single_snoc, room_for, eqb_apart, eqb_is}
 use Rattle.tree_target.proofs.Simulating.{stands_after}
 
 no_row : (n : NamespaceRow) → None ≡ Some n → ⊥
@@ -80,13 +82,13 @@ same_view k t port c m hs hp st b =
     ∙ sym (row_of_port k.tree port c.port hp b.at_port))
 
 -- ---- the binding of a queue
-abbrev Both : Configuration → Option CodeBinding → Option Binding → Type 0
+abbrev pub Both : Configuration → Option CodeBinding → Option Binding → Type 0
 Both t None None = Unit {0}
 Both t None (Some m) = ⊥
 Both t (Some c) None = ⊥
 Both t (Some c) (Some m) = (m.port ≡ c.port) × IsBoundAs t m.port c.bound m.bound
 
-both_at : (t : Configuration) (cs : List CodeBinding) (ms : List Binding) (i : ℕ)
+pub both_at : (t : Configuration) (cs : List CodeBinding) (ms : List Binding) (i : ℕ)
     → AreBound t cs ms → Both t (slice_get cs i) (slice_get ms i)
 both_at t [] [] i b = tt
 both_at t [] (m ∷ ms) i b = absurd b
@@ -258,6 +260,7 @@ held_kept k room room' queue number cid e job s wide h idle a =
       few_disks = s.few_disks;
       few_queues = s.few_queues;
       room = omega (arith, r, wide);
+      joined = s.joined;
     }
 
 pub held_room : (k : Kept) (room queue number cid : ℕ) (job : Job) → IsKept k room
@@ -313,14 +316,28 @@ held_leaves k queue number cid job =
           };
     }
 
--- ---- fabrics commands
-pub control_does : (k : Kept) (queue number : ℕ) (e : Sqe) (payload : List ℕ)
-    → Simulates k (Control queue number e payload)
-    (answered (qid_from (bound_in k.bindings queue)) e.cid INVALID_OPCODE) [] k
-unfolding reply_of bytes_of changed
-control_does k queue number e payload t st = record {
-  lawful = refl;
-  reply_is = ap (λ (q : ℕ). answered q e.cid INVALID_OPCODE) (qid_is k t queue st);
-  bytes_are = refl;
-  stands = stands_after k t t (Control queue number e payload) refl st;
+-- ---- admin queues
+admin_refused : (k : Kept) (queue : ℕ) (e : Sqe) → is_admin_in k queue ≡ true
+    → admission_by k queue e ≡ Refused INVALID_OPCODE
+unfolding admission_by
+admin_refused k queue e h = of_bound_in (bound_in k.bindings queue) h where
+  of_bound_in : (b : Option CodeBound) → is_admin_bound b ≡ true
+      → by_bound k e b ≡ Refused INVALID_OPCODE
+  of_bound_in None x = refl
+  of_bound_in (Some b) x = ap (by_qid k e b) (eqb_is b.qid 0 x)
+
+none_appended : (to : Text) → to ≡ appended to []
+none_appended to = ap (λ (b : List ℕ). record { bytes = b; room = to.room })
+    (sym (append-nil to.bytes))
+
+-- a refused command of an admin queue gives nothing
+pub admin_does : (k : Kept) (queue number : ℕ) (e : Sqe) (to : Text) → SubsystemPositions k.tree
+    → PortPositions k.tree → is_admin_in k queue ≡ true
+    → SubmitsAdmin k (Submit queue number e)
+    (answered (qid_from (bound_in k.bindings queue)) e.cid INVALID_OPCODE) to to k
+admin_does k queue number e to hs hp h = record {
+  bytes = [];
+  does = refused_does k queue number e INVALID_OPCODE hs hp (admin_refused k queue e h);
+  appends = none_appended to;
+  short = omega arith;
 }

@@ -133,6 +133,7 @@ executed_is_kept k room queue number payload h s e asked =
       few_disks = omega (arith, len, few);
       few_queues = s.few_queues;
       room = s.room;
+      joined = s.joined;
     }
 
 -- ---- what it leaves to other queues

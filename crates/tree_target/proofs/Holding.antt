@@ -20,6 +20,7 @@ use Rattle.tree_target.specs.Edits.{outcome}
 use Rattle.tree_target.specs.Model.{Call, Submit, Execute, Poll, Control, AnEdit, DrainEnd, Bound, Binding, Target, is_command, held_at, binding_at}
 use Rattle.tree_target.specs.Views.{space_in, row_of, on_blocks, on_disk, seen_of, subsystem_named, view_at}
 use Rattle.tree_target.specs.Admission.{Admission, Completes, Waits, Holds as HoldsJob, of_admit, of_qid, of_bound, of_binding, admission}
+use Rattle.tree_target.specs.Controls.{after_control}
 use Rattle.tree_target.specs.Steps.{reply_of, changed, target_after, without, after_submit, after_execute, after_edit, submitted, command_of}
 use Rattle.tree_target.specs.Held.{held_by, held_disk, TakesOne, HeldBy, HeldChange, IsShown}
 use Rattle.tree_target.proofs.HeldList.{no_command, some_is, both_true, eqb_is}
@@ -90,6 +91,11 @@ execute_held t queue number payload (Some h) e lawful =
       held = s.now;
     }
 
+control_held : (t : Target) (queue : ℕ) (e : Sqe) (payload : List ℕ) (b : Option Binding)
+    → (after_control t queue e payload b).held ≡ t.held
+control_held t queue e payload None = refl
+control_held t queue e payload (Some b) = refl
+
 edit_held : (t : Target) (o : Outcome) → (after_edit t o).held ≡ t.held
 edit_held t (Refuses errno) = refl
 edit_held t (Accepts u c) = refl
@@ -128,7 +134,8 @@ held_change t (Execute queue number payload) = λ lawful.
     (target_after t (Execute queue number payload)) queue number refl
     (execute_held t queue number payload (held_at t queue number) refl lawful)
 held_change t (Poll queue) = refl
-held_change t (Control queue number e payload) = refl
+held_change t (Control queue number e payload) =
+    control_held t queue e payload (binding_at t queue)
 held_change t (AnEdit line e) = edit_held t (outcome t.tree e)
 held_change t (DrainEnd line sub nsid) = refl
 

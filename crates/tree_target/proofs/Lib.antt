@@ -3,10 +3,17 @@ pub mod Taking
 pub mod Replays
 pub mod HeldList
 pub mod Shapes
+pub mod Joining
 pub mod Simulating
 pub mod Admitting
+pub mod Accepting
+pub mod Controlling
 pub mod Executing
 pub mod Changes
 pub mod Holding
 pub mod Lives
 pub mod Simples
+pub mod Singles
+pub mod SimpleSteps
+pub mod SimpleEdits
+pub mod PlanDisks

@@ -24,6 +24,7 @@ use Rattle.tree_target.specs.Model.{Call, Poll, AnEdit, DrainEnd, Bound, Binding
 use Rattle.tree_target.specs.Steps.{reply_of, bytes_of, changed, target_after, after_edit, edited, may_end}
 use Rattle.tree_target.specs.Kept.{Kept, IsKept, LeavesOthers}
 use Rattle.tree_target.specs.Stands.{IsBound, IsBoundAs, AreBound, StandsFor, Simulates, reply_from}
+use Rattle.tree_target.proofs.Joining.{joined_along}
 
 -- ---- bindings go along with a tree that keeps what controllers are attached to
 attached_sub : (t u : Configuration) (at : ℕ) → u.settings.attached ≡ t.settings.attached
@@ -159,14 +160,27 @@ edit_leaves k (Ok change) u = tree_leaves k u
 edit_leaves k (Err (refused.Errno errno)) u = tree_leaves k u
 edit_leaves k (Err refused.Memory) u = tt
 
-pub tree_kept : (k : Kept) (room : ℕ) (u : Configuration) → IsKept k room
+-- another tree with the same attached controllers
+pub tree_kept : (k : Kept) (room : ℕ) (u : Configuration)
+    → u.settings.attached ≡ k.tree.settings.attached → IsKept k room
     → IsKept (record k { tree = u }) room
-tree_kept k room u s = record {
+tree_kept k room u e s = record {
   holds = s.holds;
   few_disks = s.few_disks;
   few_queues = s.few_queues;
   room = s.room;
+  joined = joined_along k.tree u k.controllers k.bindings e s.joined;
 }
+
+-- after an edit, whatever it answers
+pub edit_kept : (k : Kept) (room : ℕ) (e : Edit) (grows : _) (r : Result Change Refused)
+    (u : Configuration) → Gives grows (outcome k.tree e) k.tree r u
+    → IfOk r (λ _. Stays k.tree u) → IsKept k room → IsKept (record k { tree = u }) room
+edit_kept k room e grows (Ok change) u g s h = tree_kept k room u s.attached h
+edit_kept k room e grows (Err (refused.Errno errno)) u g s h =
+    tree_kept k room u (ap (λ (x : Configuration). x.settings.attached) g.1) h
+edit_kept k room e grows (Err refused.Memory) u g s h =
+    tree_kept k room u (ap (λ (x : Configuration). x.settings.attached) g.0) h
 
 -- ---- the end of a drain
 freed_path_settings : (t : Configuration) (q : Option (List ℕ)) → (freed_path t q).settings
@@ -197,6 +211,11 @@ same_settings t u e = record {
     at_is = x.at_is;
   };
 }
+
+pub drained_kept : (k : Kept) (room : ℕ) (sub : List ℕ) (nsid : ℕ) → IsKept k room
+    → IsKept (record k { tree = drained k.tree sub nsid }) room
+drained_kept k room sub nsid h = tree_kept k room (drained k.tree sub nsid)
+    (ap (λ (s : Settings). s.attached) (drained_settings k.tree sub nsid)) h
 
 pub drained_does : (k : Kept) (line : ℕ) (sub : List ℕ) (nsid : ℕ)
     → IsTrue (may_end k.tree k.held sub nsid)

@@ -1,5 +1,5 @@
 -- What the program's target keeps.
-use Rattle.std.specs.Prelude.{◌≡◌, ◌≢◌, ◌≤◌, ◌==◌, ℕ, zero, suc, Bool, false, IsTrue, List, [], ◌∷◌, length, Option, Some, None, is_some, slice_get, find}
+use Rattle.std.specs.Prelude.{◌≡◌, ◌≢◌, ◌≤◌, ◌==◌, ℕ, zero, suc, Bool, true, false, IsTrue, List, [], ◌∷◌, length, Option, Some, None, is_some, slice_get, find}
 use Rattle.std.specs.List.{AllByRecursion}
 use Rattle.mem_bdev.specs.Blocks.{Blocks}
 use Rattle.mem_bdev.specs.declared.limits.TheConstants.{MAX_TRANSFER}
@@ -9,7 +9,7 @@ use Rattle.sqe_cqe.specs.declared.controllers.Bound.{Bound}
 use Rattle.sqe_cqe.specs.declared.controllers.Binding.{Binding}
 use Rattle.sqe_cqe.specs.declared.controllers.ControllerRow.{ControllerRow}
 use Rattle.sqe_cqe.specs.Answers.{view_of}
-use Rattle.sqe_cqe.specs.Sqe.{payload_len, host_len}
+use Rattle.sqe_cqe.specs.Sqe.{direction_of, payload_len, host_len}
 use Rattle.io_commands.specs.declared.jobs.Job.{Job}
 use Rattle.io_commands.specs.declared.jobs.Admit.{Admit}
 use Rattle.io_commands.specs.declared.jobs.Admit.TheVariants.{Refused, Run}
@@ -21,9 +21,11 @@ use Rattle.tree_target.specs.declared.calls.Command.{Command}
 use Rattle.tree_target.specs.declared.calls.Reply.{Reply}
 use Rattle.tree_target.specs.declared.calls.Reply.TheVariants as replies
 use Rattle.plan_files.specs.declared.plan.TheConstants.{MAX_QUEUES}
+use Rattle.plan_files.specs.Rooms.{data_room}
 use Rattle.tree_target.specs.Model.{is_command}
 use Rattle.tree_target.specs.Steps.{bytes_executed}
 use Rattle.tree_target.specs.Looked.{tree_answers}
+use Rattle.tree_target.specs.Joined.{AreJoined}
 
 -- bindings go by positions here
 pub record Kept : Type 0 where
@@ -49,6 +51,14 @@ bound_in bindings queue = bound_from (binding_in bindings queue)
 abbrev pub qid_from : Option Bound → ℕ
 qid_from None = 0
 qid_from (Some b) = b.qid
+
+-- an admin queue is connected as QID 0
+abbrev pub is_admin_bound : Option Bound → Bool
+is_admin_bound None = false
+is_admin_bound (Some b) = b.qid == 0
+
+abbrev pub is_admin_in : Kept → ℕ → Bool
+is_admin_in k queue = is_admin_bound (bound_in k.bindings queue)
 
 -- the target has a queue of this number
 pub record HasQueue (k : Kept) (queue : ℕ) : Type 0 where
@@ -102,6 +112,7 @@ pub record IsKept (k : Kept) (held_room : ℕ) : Type 0 where
   pub few_disks : length k.blocks ≤ MAX_DISKS
   pub few_queues : length k.bindings ≤ MAX_QUEUES
   pub room : MAX_QUEUES ≤ held_room
+  pub joined : AreJoined k.tree k.controllers k.bindings
 
 abbrev pub is_of : ℕ → Command → Bool
 is_of queue h = h.queue == queue
@@ -171,6 +182,29 @@ pub record IsHolding (k : Kept) (queue number taken given : ℕ) : Type 0 where
   pub has_data : HasHeldData k queue number taken
   pub is_given : held_len k queue number ≡ given
   pub short : given ≤ MAX_TRANSFER
+
+-- ---- replies of admin queues
+-- a completion
+abbrev pub is_answered : Reply → Bool
+is_answered (replies.Answered cqe) = true
+is_answered r = false
+
+-- what a submit on an admin queue replies: a completion, or that an event request waits
+abbrev pub is_admin_reply : Reply → Bool
+is_admin_reply (replies.Answered cqe) = true
+is_admin_reply replies.Waiting = true
+is_admin_reply r = false
+
+-- what a poll replies: an event's completion, or that there is none
+abbrev pub is_poll_reply : Reply → Bool
+is_poll_reply (replies.Answered cqe) = true
+is_poll_reply replies.NoEvent = true
+is_poll_reply r = false
+
+-- how many bytes of data for the host a response has room for: as many as the entry names, at most
+-- a transfer
+abbrev pub given_room : Sqe → ℕ
+given_room e = data_room (direction_of e) e.sgl_len
 
 -- ---- what a call of one queue leaves to the others, and one of the editor, whose number is 0, to
 -- all queues

@@ -3,13 +3,17 @@ pub mod Model
 pub mod Start
 pub mod Views
 pub mod Admission
+pub mod Controls
 pub mod Steps
 pub mod Legal
 pub mod Fixed
 pub mod Held
 pub mod Looked
+pub mod Joined
 pub mod Kept
 pub mod Stands
 pub mod Loads
 pub mod Lawful
 pub mod Simple
+pub mod SimpleEdits
+pub mod PlanDisks

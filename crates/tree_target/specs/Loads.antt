@@ -9,7 +9,7 @@ use Rattle.configfs_tree.specs.declared.configuration.Configuration.{Configurati
 use Rattle.configfs_tree.specs.declared.edits.Errno.{Errno}
 use Rattle.configfs_tree.specs.Outcome.{Outcome, Refuses, Accepts}
 use Rattle.configfs_tree.specs.Links.{with_no_changes}
-use Rattle.configfs_tree.specs.Start.{empty_tree}
+use Rattle.configfs_tree.specs.Start.{empty_settings, empty_tree}
 use Rattle.tree_target.specs.Edits.{Edit, outcome}
 use Rattle.tree_target.specs.Model.{Binding, Target}
 use Rattle.tree_target.specs.Kept.{Kept}
@@ -20,6 +20,10 @@ blank_of d = blank d.shift d.blocks
 
 abbrev pub unconnected : ℕ → Binding
 unconnected port = record { port = port; bound = None }
+
+-- no controller is attached
+abbrev pub IsFresh : Configuration → Type 0
+IsFresh t = t.settings.attached ≡ empty_settings.attached
 
 -- no controller yet: disks of zeros, each queue with its port, and no command held
 abbrev pub start_of : Configuration → List DiskLine → List ℕ → Target

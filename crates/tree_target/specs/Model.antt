@@ -59,7 +59,7 @@ pub record Target : Type 0 where
   pub bindings : List Binding
   -- in the order of their submits
   pub held : List Command
-  -- of the controllers
+  -- of the controllers, in their order
   pub events : List EventRequests
   pub history : List Entry
 

@@ -1,6 +1,7 @@
 -- What the program's target stands for.
-use Rattle.std.specs.Prelude.{◌≡◌, ℕ, true, IsTrue, List, [], ◌∷◌, Option, Some, None, Result, Ok, Err, alloc_error}
+use Rattle.std.specs.Prelude.{◌≡◌, ◌≤◌, ℕ, true, IsTrue, List, [], ◌∷◌, length, Option, Some, None, Result, Ok, Err, alloc_error}
 use Rattle.std.specs.declared.alloc.AllocError.{AllocError}
+use Rattle.mem_bdev.specs.Texts.{Text, appended}
 use Rattle.configfs_tree.specs.declared.configuration.Configuration.{Configuration}
 use Rattle.configfs_tree.specs.declared.edits.Change.{Change}
 use Rattle.configfs_tree.specs.declared.edits.Refused.{Refused}
@@ -10,9 +11,9 @@ use Rattle.sqe_cqe.specs.declared.controllers.Bound.{Bound as CodeBound}
 use Rattle.sqe_cqe.specs.declared.controllers.Binding.{Binding as CodeBinding}
 use Rattle.tree_target.specs.declared.calls.Reply.{Reply}
 use Rattle.tree_target.specs.declared.calls.Reply.TheVariants as replies
-use Rattle.tree_target.specs.Model.{Call, Bound, Binding, Target}
+use Rattle.tree_target.specs.Model.{Call, Submit, Bound, Binding, Target}
 use Rattle.tree_target.specs.Steps.{is_lawful, reply_of, bytes_of, target_after}
-use Rattle.tree_target.specs.Kept.{Kept}
+use Rattle.tree_target.specs.Kept.{Kept, given_room}
 
 -- the positions are those of the names, where the controller is attached
 pub record IsBound (t : Configuration) (port : ℕ) (c : CodeBound) (m : Bound) : Type 0 where
@@ -55,6 +56,19 @@ pub record Does (t : Target) (call : Call) (reply : Reply) (bytes : List ℕ) (k
 -- the same of each model that the program's target stood for before
 abbrev pub Simulates : Kept → Call → Reply → List ℕ → Kept → Type 0
 Simulates old call reply bytes new = (t : Target) → StandsFor old t → Does t call reply bytes new
+
+-- how many bytes a call may give: those of a submit that the response has room for
+abbrev pub room_of_call : Call → ℕ
+room_of_call (Submit queue number e) = given_room e
+room_of_call call = 0
+
+-- a call of an admin queue does what the model does, and appends the bytes that the host gets
+pub record SubmitsAdmin (old : Kept) (call : Call) (reply : Reply) (to to' : Text) (new : Kept)
+    : Type 0 where
+  pub bytes : List ℕ
+  pub does : Simulates old call reply bytes new
+  pub appends : to' ≡ appended to bytes
+  pub short : length bytes ≤ room_of_call call
 
 -- what an edit replies, or want of memory
 abbrev pub reply_from : Result Change Refused → Result Reply AllocError

@@ -3,7 +3,7 @@
 use Rattle.std.specs.Prelude.{ℕ, ◌==◌, ◌&&◌, not, Bool, true, false, if◌then◌else◌, List, [], ◌∷◌, ◌++◌, Option, Some, None, is_some, slice_get, slice_set}
 use Rattle.std.specs.List.{list_any}
 use Rattle.mem_bdev.specs.Blocks.{Blocks}
-use Rattle.sqe_cqe.specs.declared.codes.TheConstants.{SUCCESS, INVALID_OPCODE}
+use Rattle.sqe_cqe.specs.declared.codes.TheConstants.{SUCCESS}
 use Rattle.io_commands.specs.declared.jobs.Job.{Job}
 use Rattle.io_commands.specs.Jobs.{disk_of, bytes_read, blocks_after}
 use Rattle.configfs_rows.specs.declared.namespaces.NamespaceRow.{NamespaceRow}
@@ -17,9 +17,10 @@ use Rattle.tree_target.specs.declared.calls.Reply.{Reply}
 use Rattle.tree_target.specs.declared.calls.Reply.TheVariants as replies
 use Rattle.tree_target.specs.declared.calls.Command.{Command}
 use Rattle.tree_target.specs.Edits.{outcome}
-use Rattle.tree_target.specs.Model.{Call, Submit, Execute, Poll, Control, AnEdit, DrainEnd, Entry, Target, held_at, bound_at, qid_of, is_command}
+use Rattle.tree_target.specs.Model.{Call, Submit, Execute, Poll, Control, AnEdit, DrainEnd, Entry, Target, held_at, binding_at, bound_at, qid_of, is_command}
 use Rattle.tree_target.specs.Views.{space_in, subsystem_named}
 use Rattle.tree_target.specs.Admission.{Admission, Completes, Waits, Holds, admission}
+use Rattle.tree_target.specs.Controls.{controlled, after_control}
 
 -- ---- drains
 abbrev pub is_draining_phase : Option Phase → Bool
@@ -91,7 +92,7 @@ unfoldable pub reply_of : Target → Call → Reply
 reply_of t (Submit queue number e) = submitted t queue e.cid (admission t queue e)
 reply_of t (Execute queue number payload) = executed t queue (held_at t queue number)
 reply_of t (Poll queue) = replies.NoEvent
-reply_of t (Control queue number e payload) = completion t queue e.cid INVALID_OPCODE 0
+reply_of t (Control queue number e payload) = controlled t e payload (binding_at t queue)
 reply_of t (AnEdit line e) = edited (outcome t.tree e)
 reply_of t (DrainEnd line sub nsid) = replies.Ended
 
@@ -163,7 +164,8 @@ changed t (Submit queue number e) = after_submit t queue number e.cid (admission
 changed t (Execute queue number payload) = after_execute t queue number payload
     (held_at t queue number)
 changed t (Poll queue) = t
-changed t (Control queue number e payload) = t
+changed t (Control queue number e payload) = after_control t queue e payload
+    (binding_at t queue)
 changed t (AnEdit line e) = after_edit t (outcome t.tree e)
 changed t (DrainEnd line sub nsid) = record t { tree = drained t.tree sub nsid }
 

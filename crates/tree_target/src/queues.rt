@@ -1,23 +1,26 @@
 // The calls of queues.
-ghost use Rattle.std.specs.Prelude.{◌≡◌, ◌≢◌, ◌+◌, [], IsTrue, length};
+ghost use Rattle.std.specs.Prelude.{◌≡◌, ◌≢◌, ◌+◌, [], IsTrue, true, length};
 ghost use Rattle.mem_bdev.specs.Texts.{HasRoom, appended};
-ghost use Rattle.sqe_cqe.specs.Sqe.{payload_len, host_len};
-ghost use Rattle.tree_target.specs.Kept.{HasQueue, IsIdle, IsHolding, LeavesOthers, HasHeldData, admission_by, bound_in, held_bytes, held_len, held_reply, holds, AdmitFits};
+ghost use Rattle.sqe_cqe.specs.Sqe.{direction_of, payload_len, host_len};
+ghost use Rattle.sqe_cqe.specs.declared.codes.TheConstants.{FABRICS};
+ghost use Rattle.sqe_cqe.specs.declared.way.Direction.TheVariants.{ToController};
+ghost use Rattle.tree_target.specs.Kept.{HasQueue, IsIdle, IsHolding, LeavesOthers, HasHeldData, admission_by, bound_in, held_bytes, held_len, held_reply, holds, AdmitFits, given_room, is_admin_in, is_admin_reply, is_answered, is_poll_reply};
 ghost use Rattle.tree_target.specs.Model.{Submit, Execute, Poll, Control};
-ghost use Rattle.tree_target.specs.Stands.{Simulates};
+ghost use Rattle.tree_target.specs.Stands.{Simulates, SubmitsAdmin};
 
 use crate::calls::{Command, Reply};
 use crate::commands::{take_command, work};
 use crate::look::TreeLook;
 use crate::target::{Target, complete};
 use configfs_tree::{port_positions, subsystem_positions};
+use fabrics_connect::control;
 use io_commands::{Admit, admit_io};
 use mem_bdev::Buffer;
 use sqe_cqe::{Bound, INVALID_OPCODE, SUCCESS, Sqe};
 
 impl Target {
     // What a queue is connected to.
-    fn bound(&self, queue: u32) -> Option<Bound>
+    pub(crate) fn bound(&self, queue: u32) -> Option<Bound>
         ensures { result ≡ bound_in self.now.bindings queue }
     {
         if queue == 0 {
@@ -56,6 +59,7 @@ impl Target {
         ensures held { result ≡ Reply.Held →
             IsHolding self.new queue number (payload_len e.now) (host_len e.now) }
         ensures answered { result ≢ Reply.Held → IsIdle self.new queue }
+        ensures bindings { self.new.bindings ≡ self.old.bindings }
         ensures others { LeavesOthers queue self.old self.new }
     {
         self.tree.certify();
@@ -90,6 +94,7 @@ impl Target {
         ensures appends { to.new ≡ appended to.old (held_bytes self.old queue number) }
         ensures len { length to.new.bytes ≡ length to.old.bytes + held_len self.old queue number }
         ensures idle { IsIdle self.new queue }
+        ensures bindings { self.new.bindings ≡ self.old.bindings }
         ensures others { LeavesOthers queue self.old self.new }
     {
         let qid = self.qid(queue);
@@ -100,23 +105,70 @@ impl Target {
         complete(qid, command.cid, SUCCESS)
     }
 
-    /// Polls the admin queue of a controller: no event comes yet. Takes no memory.
+    /// Submits a command of a connected admin queue; data for the host are appended to `to`, which
+    /// has room for as many as the entry names. No command is served yet, so each is answered
+    /// with Invalid Opcode. `number` is the capsule's number in its file, from 0. Takes no memory.
+    pub fn submit_admin(&mut self, queue: u32, number: u32, e: &Sqe, to: &mut Buffer) -> Reply
+        requires queue { HasQueue self.old queue }
+        requires idle { IsIdle self.old queue }
+        requires admin { is_admin_in self.old queue ≡ true }
+        requires room { HasRoom to.old (given_room e.now) }
+        ensures does { SubmitsAdmin self.old (Submit queue number e.now) result to.old to.new
+            self.new }
+        ensures answered { result ≢ Reply.Held }
+        ensures replies { is_admin_reply result ≡ true }
+        ensures idle { IsIdle self.new queue }
+        ensures bindings { self.new.bindings ≡ self.old.bindings }
+        ensures others { LeavesOthers queue self.old self.new }
+    {
+        self.tree.certify();
+        subsystem_positions(&self.tree);
+        port_positions(&self.tree);
+        let _input = (number, to.len());
+        complete(self.qid(queue), e.cid, INVALID_OPCODE)
+    }
+
+    /// Polls the admin queue of a controller: it gets the completion of an event request, or no
+    /// event. No event comes yet. Takes no memory.
     pub fn poll(&mut self, queue: u32) -> Reply
         ensures does { Simulates self.old (Poll queue) result [] self.new }
-        ensures same { self.new ≡ self.old }
+        ensures replies { is_poll_reply result ≡ true }
+        ensures idle { IsIdle self.old queue → IsIdle self.new queue }
+        ensures bindings { self.new.bindings ≡ self.old.bindings }
+        ensures others { LeavesOthers queue self.old self.new }
     {
         let _queue = queue;
         Reply::NoEvent
     }
 
-    /// A fabrics command: no queue can be connected yet, so it is refused. Takes no memory.
+    /// A fabrics command (opcode 7Fh) on a queue: Connect, Property Get or Property Set, with as many
+    /// bytes of data as a Connect's SGL length says. The first check that fails answers with its
+    /// status and result, and changes nothing (`fabrics_connect::control`). The queue's last
+    /// command was executed. Takes no memory.
     pub fn control(&mut self, queue: u32, number: u32, e: &Sqe, payload: &[u8]) -> Reply
+        requires opcode { e.now.opcode ≡ FABRICS }
+        requires payload { direction_of e.now ≡ ToController →
+            length payload.now ≡ e.now.sgl_len }
+        requires queue { HasQueue self.old queue }
+        requires idle { IsIdle self.old queue }
         ensures does { Simulates self.old (Control queue number e.now payload.now) result []
             self.new }
-        ensures idle { IsIdle self.old queue → IsIdle self.new queue }
+        ensures answered { is_answered result ≡ true }
+        ensures idle { IsIdle self.new queue }
         ensures others { LeavesOthers queue self.old self.new }
     {
-        let _input = (number, payload.len());
-        complete(self.qid(queue), e.cid, INVALID_OPCODE)
+        let _number = number;
+        self.tree.certify();
+        let at = queue as usize - 1;
+        let mut binding = self.bindings[at];
+        let told = control(
+            &mut self.tree,
+            &mut self.controllers,
+            &mut binding,
+            e,
+            payload,
+        );
+        self.bindings[at] = binding;
+        Reply::Answered(told.cqe)
     }
 }

@@ -4,8 +4,8 @@ ghost use Rattle.mem_bdev.specs.Blocks.{IsShape};
 ghost use Rattle.mem_bdev.specs.declared.limits.TheConstants.{MAX_TRANSFER};
 ghost use Rattle.plan_files.specs.declared.plan.TheConstants.{MAX_QUEUES};
 ghost use Rattle.tree_target.specs.Edits.{is_well_formed};
-ghost use Rattle.tree_target.specs.Loads.{LoadsTarget, start_of, loaded};
-ghost use Rattle.tree_target.specs.Kept.{HasHeldData, HasQueue, IsIdle, binding_in, bound_in, held_len, held_reply, qid_from};
+ghost use Rattle.tree_target.specs.Loads.{IsFresh, LoadsTarget, start_of, loaded};
+ghost use Rattle.tree_target.specs.Kept.{HasHeldData, HasQueue, IsIdle, binding_in, bound_in, is_admin_in, is_admin_bound, held_len, held_reply, qid_from};
 ghost use Rattle.tree_target.specs.Stands.{StandsFor};
 ghost use Rattle.tree_target.specs.Kept.{answered};
 
@@ -70,6 +70,7 @@ impl Target {
         requires few_queues { length ports.now ≤ MAX_QUEUES }
         requires disks { IsTrue (are_disks lines.now) }
         requires shaped { All (λ d. IsShape d.shift d.blocks) lines.now }
+        requires fresh { IsFresh tree }
         ensures stands { IfOk result (λ k. StandsFor k (start_of tree lines.now ports.now)) }
         ensures queues { IfOk result (λ k. length k.bindings ≡ length ports.now) }
         ensures idle { IfOk result (λ k. (queue : ℕ) → IsIdle k queue) }
@@ -157,6 +158,16 @@ impl Target {
                 },
             ) => bound.qid,
             _ => 0,
+        }
+    }
+
+    /// Whether the queue is connected as an admin queue (QID 0).
+    pub fn is_admin(&self, queue: u32) -> bool
+        ensures { result ≡ is_admin_in self.now queue }
+    {
+        match self.bound(queue) {
+            None => false,
+            Some(bound) => bound.qid == 0,
         }
     }
 

@@ -1,6 +1,66 @@
-use Rattle.tree_target.proofs.Admitting.{control_does}
+use Rattle.std.proofs.Common.{◌≡◌, ◌≤◌, ◌<◌, ℕ, ◌-◌, suc, length, get_or, List, Some, slice_get, refl, ap, arith}
+use Rattle.std.proofs.lemmas.Option.{slice_get_read}
+use Rattle.sqe_cqe.specs.declared.controllers.Binding.{Binding}
+use Rattle.fabrics_connect.specs.After.{told_by}
+use Rattle.tree_target.specs.Kept.{Kept, HasQueue}
+use Rattle.tree_target.specs.contracts.target.Target.{the_view}
+use Rattle.tree_target.proofs.Controlling.{control_does, control_kept, control_leaves, has_room}
 use Rattle.tree_target.proofs.target.Target.control.Goals as goal
 
+next : (queue : ℕ) → 1 ≤ queue → queue ≡ suc (queue - 1)
+next queue low = omega arith
+
+read_at : (k now : Kept) (queue : ℕ) (b : Binding) → k ≡ now → HasQueue now queue
+    → b ≡ get_or k.bindings (queue - 1) b → slice_get k.bindings (queue - 1) ≡ Some b
+read_at k now queue b same h is =
+    let low = h.low in
+    let high = h.high in
+    let len : length k.bindings ≡ length now.bindings = ap (λ (x : Kept). length x.bindings) same in
+    slice_get_read k.bindings (length k.bindings) (queue - 1) b refl (omega (arith, low, high, len))
+    is
+
+pub control-told-requires-clause-room : goal.control-told-requires-clause-room
+control-told-requires-clause-room c = has_room (the_view c.self.inside) _ (c.args.queue - 1)
+    c.index.result.now c.index.result.now.bound refl
+    (read_at (the_view c.self.inside) c.args.self.now c.args.queue c.index.result.now
+    c.self.view_is c.requires.queue c.index.ensures) c.self.invariant
+
+pub invariant_of-self : goal.invariant_of-self
+invariant_of-self c =
+    let told = c.control-told in
+    let counted = rw (told.ensures.tree, told.ensures.controllers) at told.ensures.attached in
+    rw (told.ensures.tree, told.ensures.controllers, told.ensures.binding)
+    (control_kept (the_view c.self.inside) (c.args.queue - 1) c.args.number c.args.e.now
+    c.args.payload.now c.index.result.now c.certify.ensures c.self.invariant.joined
+    told.ensures.accepted _
+    (read_at (the_view c.self.inside) c.args.self.now c.args.queue c.index.result.now
+    c.self.view_is c.requires.queue c.index.ensures) counted c.self.invariant)
+
 pub returns-clause-does : goal.returns-clause-does
-returns-clause-does c = rw (c.complete.ensures, c.qid.ensures)
-    (control_does c.args.self.now c.args.queue c.args.number c.args.e.now c.args.payload.now)
+unfolding told_by
+returns-clause-does c =
+    let told = c.control-told in
+    rw (
+      ← c.self.view_is,
+      told.ensures.told,
+      told.ensures.tree,
+      told.ensures.controllers,
+      told.ensures.binding,
+    )
+    (control_does (the_view c.self.inside) (c.args.queue - 1) c.args.number c.args.e.now
+    c.args.payload.now c.index.result.now c.certify.ensures c.self.invariant.joined
+    told.ensures.accepted c.args.queue (next c.args.queue c.requires.queue.low)
+    (read_at (the_view c.self.inside) c.args.self.now c.args.queue c.index.result.now
+    c.self.view_is c.requires.queue c.index.ensures))
+
+pub returns-clause-others : goal.returns-clause-others
+returns-clause-others c =
+    let told = c.control-told in
+    rw (
+      ← c.self.view_is,
+      told.ensures.tree,
+      told.ensures.controllers,
+      told.ensures.binding,
+    )
+    (control_leaves (the_view c.self.inside) c.args.queue (c.args.queue - 1) c.index.result.now _
+    (next c.args.queue c.requires.queue.low))

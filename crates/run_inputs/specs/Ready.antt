@@ -1,0 +1,72 @@
+-- What a run has in hand once its files were read.
+use Rattle.std.specs.Prelude.{◌≡◌, ◌≤◌, ◌⊎◌, ℕ, List, map, length, All, Result, Ok, Err}
+use Rattle.plan_files.specs.declared.capsules.TheConstants.{MAX_CAPSULES, MAX_OUTPUT}
+use Rattle.plan_files.specs.Capsules.{Capsule, IsWholeIn, capsules_in}
+use Rattle.plan_files.specs.Rooms.{room_of}
+use Rattle.run_transcript.specs.declared.capsule_files.CapsuleFile.{CapsuleFile}
+use Rattle.run_inputs.specs.Known.{Known}
+use Rattle.run_inputs.specs.declared.inputs.Inputs.{Inputs}
+use Rattle.run_inputs.specs.declared.inputs.PlanInputs.{PlanInputs}
+use Rattle.run_inputs.specs.Known.{begun}
+use Rattle.run_inputs.specs.InputFiles.{input_files}
+use Rattle.run_inputs.specs.Stages.{ReadOn}
+use Rattle.run_inputs.specs.Reading.{ReadsAll, FilesTell}
+use Rattle.run_outside.specs.Outside.{Rose}
+use Rattle.run_outcomes.specs.Outsides.{FilesView}
+use Rattle.run_outcomes.specs.declared.faults.Fault.{Fault}
+use Rattle.run_outcomes.specs.declared.faults.Fault.TheVariants as fault
+use Rattle.run_transcript.specs.declared.scripts.ScriptEdit.{ScriptEdit}
+use Rattle.plan_files.specs.declared.items.Plan.{Plan}
+use Rattle.tree_target.specs.Kept.{Kept}
+use Rattle.tree_target.specs.Stands.{StandsFor}
+
+-- the capsules of a file
+abbrev pub capsules_of_file : CapsuleFile → List Capsule
+capsules_of_file f = capsules_in f.bytes.items f.capsules.items
+
+-- the data of each capsule stand in the bytes, they are at most 65,536, and the room is theirs
+pub record IsReady (f : CapsuleFile) : Type 0 where
+  pub whole : All (IsWholeIn f.bytes.items) f.capsules.items
+  pub few : length f.capsules.items ≤ MAX_CAPSULES
+  pub room : f.room ≡ room_of (λ c. c.sqe) f.capsules.items
+
+-- the program has in hand what is known
+pub record Holds (target : Kept) (passed_over : ℕ) (script : List ScriptEdit)
+    (files : List CapsuleFile) (s : Known) : Type 0 where
+  pub stands : StandsFor target s.start
+  pub passed_over_is : s.passed_over ≡ passed_over
+  pub script_is : s.script ≡ script
+  pub files_are : s.files ≡ map capsules_of_file files
+
+abbrev pub HoldsInputs : Inputs → Known → Type 0
+HoldsInputs i s = Holds i.target i.passed_over i.script.items i.files.items s
+
+abbrev pub HoldsRest : PlanInputs → Known → Type 0
+HoldsRest i s = Holds i.target i.passed_over i.script.items i.files.items s
+
+-- these files gave what the program has in hand
+pub record ReadsRest (now : FilesView) (plan : Plan) (i : PlanInputs) : Type 0 where
+  pub known : Known
+  pub holds : HoldsRest i known
+  pub read : ReadOn now (input_files plan) (begun plan) known
+
+-- the plan of this name, and the files that it names, gave what the program has in hand
+pub record ReadsInputs (before after : FilesView) (name : List ℕ) (i : Inputs) : Type 0 where
+  pub known : Known
+  pub plan_is : known.plan ≡ i.plan
+  pub holds : HoldsInputs i known
+  pub read : ReadsAll before after name (Ok known)
+
+-- ---- what told files settle
+-- where no call failed, the answer is what the files give, or want of memory
+abbrev pub Settles : {X : Type 0} → Result Known Fault → Result X Fault → Type 0
+Settles (Ok s) (Ok x) = Unit {0}
+Settles (Ok s) (Err f) = f ≡ fault.Memory
+Settles (Err e) (Ok x) = ⊥
+Settles (Err e) (Err f) = (f ≡ e) ⊎ (f ≡ fault.Memory)
+
+-- what files tell is what was read of them, unless a call failed or memory ran out
+abbrev pub ToldFilesSettle : Type 0
+ToldFilesSettle = (before after : FilesView) (name : List ℕ) (r told : Result Known Fault)
+    → ReadsAll before after name r → FilesTell before.told name told
+    → (Rose before.faults after.faults → ⊥) → (r ≡ told) ⊎ (r ≡ Err fault.Memory)

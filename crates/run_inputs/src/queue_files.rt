@@ -1,0 +1,2 @@
+pub const MAX_ALL_INPUT: u64 = 536_870_912;
+pub const MAX_ALL_OUTPUT: u64 = 536_870_912;
