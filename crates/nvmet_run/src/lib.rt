@@ -9,4 +9,4 @@ mod words;
 mod writing;
 
 pub use status::Status;
-pub use words::{Words, WordsError, read_words};
+pub use words::{Verb, read_words};
