@@ -1,0 +1,4 @@
+pub mod Known
+pub mod Making
+pub mod Ending
+pub mod Settling

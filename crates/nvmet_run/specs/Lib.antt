@@ -1,2 +1,6 @@
 pub mod Codes
 pub mod Commands
+pub mod Headline
+pub mod Refusals
+pub mod Made
+pub mod Stub

@@ -2,6 +2,7 @@
 #![tactic(auto)]
 
 mod journal;
+mod run;
 mod status;
 mod stub;
 mod summary;

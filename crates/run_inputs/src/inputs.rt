@@ -1,8 +1,17 @@
 use plan_files::Plan;
-use run_outcomes::Fault;
 use run_transcript::{CapsuleFile, ScriptEdit};
 use tree_target::Target;
 
+/// What the files that a plan names have given.
+#[derive(Drop)]
+pub struct PlanInputs {
+    pub target: Target,
+    pub passed_over: u64,
+    pub script: Vec<ScriptEdit>,
+    pub files: Vec<CapsuleFile>,
+}
+
+/// All that a run reads.
 #[derive(Drop)]
 pub struct Inputs {
     pub plan: Plan,
@@ -10,10 +19,4 @@ pub struct Inputs {
     pub passed_over: u64,
     pub script: Vec<ScriptEdit>,
     pub files: Vec<CapsuleFile>,
-}
-
-#[derive(Drop)]
-pub struct Unread {
-    pub plan: Option<Plan>,
-    pub fault: Fault,
 }
