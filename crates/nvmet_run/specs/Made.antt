@@ -51,7 +51,7 @@ pub record MakesPlan (told : Told) (name : List ℕ) (plan : Plan) (records : Li
 
 -- reading the files that a plan names ended by this fault, or there was no memory to serve them
 abbrev pub Stops : FilesView → FilesView → Plan → Fault → Type 0
-Stops now after plan f = (f ≡ fault.Memory) ⊎ StoppedIn now after (input_files plan) (begun plan) f
+Stops now after plan f = StoppedIn now after (input_files plan) (begun plan) f
 
 -- a file wasn't written, and the sink was not asked; or the sink did not take the text
 abbrev pub WriteEnds : List ToWrite → Outside → Outside → List ℕ → Fault → Type 0

@@ -6,8 +6,11 @@ mod run;
 mod status;
 mod stub;
 mod summary;
+mod top;
 mod words;
 mod writing;
 
+pub use run::run_plan;
 pub use status::Status;
+pub use top::command;
 pub use words::{Verb, read_words};

@@ -22,12 +22,12 @@ ghost use Rattle.nvmet_run.specs.Refusals.{Refusal};
 
 use crate::journal::journal_of;
 use crate::status::Status;
-use crate::stub::{Served, file_name, read_plan_file, read_plan_inputs, serve, told_files_settle};
+use crate::stub::{Served, serve};
 use crate::summary::summary_text;
 use crate::writing::write_files;
 use mem_bdev::Buffer;
 use plan_files::{Files, Gate, Plan, Sink};
-use run_inputs::PlanInputs;
+use run_inputs::{PlanInputs, file_name, read_plan_file, read_plan_inputs, told_files_settle};
 use run_outcomes::{Fault, plans_have_apart_names, put_line, put_text};
 use std::alloc::{AllocError, Global};
 use std::sync::Wait;
@@ -184,7 +184,7 @@ fn run_whole<F: Files, K: Sink>(
     match run_read(alloc, &read, files, out) {
         Ok(()) => Ok(()),
         Err(fault) => {
-            report_fault(file_name(&read, plan.as_bytes(), fault.file()), &fault, out);
+            report_fault(file_name(plan.as_bytes(), &read, fault.file()), &fault, out);
             Err(fault)
         }
     }

@@ -54,54 +54,6 @@ pub struct Served {
     pub totals: Totals,
 }
 
-pub fn read_plan_file<F: Files>(_alloc: Global, name: &str, files: &mut F) -> Result<Plan, Fault>
-    ensures read { IfOk result (λ plan. ReadsSo (told_by (F.tells files.old) (F.told files.old))
-        name.now PlanBegins (Ok (begun plan))) }
-    ensures planned { IfOk result (λ plan. IsPlanned plan) }
-    ensures refused { IfErr result (λ f. Reading
-        (seen (F.tells files.old) (F.told files.old) (F.faults files.old) (F.last files.old))
-        (seen (F.tells files.new) (F.told files.new) (F.faults files.new) (F.last files.new))
-        PLAN name.now PlanBegins (Err f)) }
-    ensures later { IsEarlier
-        (seen (F.tells files.old) (F.told files.old) (F.faults files.old) (F.last files.old))
-        (seen (F.tells files.new) (F.told files.new) (F.faults files.new)
-        (F.last files.new)) }
-{
-    Err(Fault::Memory)
-}
-
-pub fn file_name<'a>(plan: &'a Plan, name: &'a [u8], _file: FileNo) -> &'a [u8]
-    ensures { result.now ≡ name_of name.now plan.now _file }
-{
-    name
-}
-
-pub fn read_plan_inputs<F: Files>(
-    _alloc: Global,
-    plan: &Plan,
-    files: &mut F,
-) -> Result<PlanInputs, Fault>
-    requires { IsPlanned plan.now }
-    ensures read { IfOk result (λ i. ReadsRest
-        (seen (F.tells files.old) (F.told files.old) (F.faults files.old) (F.last files.old))
-        plan.now i) }
-    ensures refused { IfErr result (λ f. StoppedIn
-        (seen (F.tells files.old) (F.told files.old) (F.faults files.old) (F.last files.old))
-        (seen (F.tells files.new) (F.told files.new) (F.faults files.new) (F.last files.new))
-        (input_files plan.now) (begun plan.now) f) }
-    ensures queues { IfOk result (λ i. length i.target.bindings ≡ length plan.now.queues) }
-    ensures idle { IfOk result (λ i. (queue : ℕ) → IsIdle i.target queue) }
-    ensures lines { IfOk result (λ i. length i.script.items ≤ MAX_LINES) }
-    ensures fitting { IfOk result (λ i. All (λ s. IsTrue (is_fitting s.edit)) i.script.items) }
-    ensures files { IfOk result (λ i. length i.files.items ≡ length plan.now.queues) }
-    ensures ready { IfOk result (λ i. All IsReady i.files.items) }
-    ensures later { IsEarlier
-        (seen (F.tells files.old) (F.told files.old) (F.faults files.old) (F.last files.old))
-        (seen (F.tells files.new) (F.told files.new) (F.faults files.new) (F.last files.new)) }
-{
-    Err(Fault::Memory)
-}
-
 pub fn serve(
     _alloc: Global,
     target: &mut Target,
@@ -130,7 +82,3 @@ impl Served {
         &self.totals
     }
 }
-
-pub fn told_files_settle()
-    ensures { ToldFilesSettle }
-{}

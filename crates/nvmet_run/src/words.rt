@@ -8,8 +8,6 @@ use plan_files::is_name;
 pub enum Verb {
     /// `run PLAN`: a run of the plan.
     Run,
-    /// `show PLAN`: the configuration of the plan, in nvmetcli's JSON.
-    Show,
 }
 
 // Whether a word may name a plan.
@@ -26,13 +24,12 @@ fn verb_of(word: &str) -> Option<Verb>
 {
     match word {
         "run" => Some(Verb::Run),
-        "show" => Some(Verb::Show),
         _ => None,
     }
 }
 
-/// What the words after the program's name say: `run PLAN` or `show PLAN`, PLAN being 1 to 255
-/// bytes from 21h to 7Eh that don't begin with `-`. `None` for any other words.
+/// What the words after the program's name say: `run PLAN`, PLAN being 1 to 255 bytes from 21h
+/// to 7Eh that don't begin with `-`. `None` for any other words.
 pub fn read_words(words: &[String]) -> Option<(Verb, &str)>
     ensures { MatchOption result (said_by words.now ≡ None) (λ w. said_by words.now
         ≡ Some (said w.0 w.1.now)) }

@@ -1,5 +1,5 @@
 -- What a run has in hand once its files were read.
-use Rattle.std.specs.Prelude.{◌≡◌, ◌≤◌, ◌⊎◌, ℕ, List, map, length, All, Result, Ok, Err}
+use Rattle.std.specs.Prelude.{◌≡◌, ◌≤◌, ◌⊎◌, ℕ, List, map, length, All, Result, Ok, Err, IfErr}
 use Rattle.plan_files.specs.declared.capsules.TheConstants.{MAX_CAPSULES, MAX_OUTPUT}
 use Rattle.plan_files.specs.Capsules.{Capsule, IsWholeIn, capsules_in}
 use Rattle.plan_files.specs.Rooms.{room_of}
@@ -47,6 +47,7 @@ HoldsRest i s = Holds i.target i.passed_over i.script.items i.files.items s
 -- these files gave what the program has in hand
 pub record ReadsRest (now : FilesView) (plan : Plan) (i : PlanInputs) : Type 0 where
   pub known : Known
+  pub plan_is : known.plan ≡ plan
   pub holds : HoldsRest i known
   pub read : ReadOn now (input_files plan) (begun plan) known
 
@@ -58,14 +59,23 @@ pub record ReadsInputs (before after : FilesView) (name : List ℕ) (i : Inputs)
   pub read : ReadsAll before after name (Ok known)
 
 -- ---- what told files settle
--- where no call failed, the answer is what the files give, or want of memory
-abbrev pub Settles : {X : Type 0} → Result Known Fault → Result X Fault → Type 0
-Settles (Ok s) (Ok x) = Unit {0}
-Settles (Ok s) (Err f) = f ≡ fault.Memory
-Settles (Err e) (Ok x) = ⊥
-Settles (Err e) (Err f) = (f ≡ e) ⊎ (f ≡ fault.Memory)
 
--- what files tell is what was read of them, unless a call failed or memory ran out
+-- the answer is this fault, or want of memory
+abbrev pub IsFault : {X : Type 0} → Fault → Result X Fault → Type 0
+IsFault f (Ok x) = ⊥
+IsFault f (Err e) = (e ≡ f) ⊎ (e ≡ fault.Memory)
+
+-- where told files have this first fault, and no call fails, the answer is this fault
+abbrev pub IsExact : {X : Type 0} → FilesView → FilesView → List ℕ → Result X Fault → Type 0
+IsExact before after name result = (f : Fault) → FilesTell before.told name (Err f)
+    → (Rose before.faults after.faults → ⊥) → IsFault f result
+
+-- where told files have none, and no call fails, all is read
+abbrev pub IsComplete : {X : Type 0} → FilesView → FilesView → List ℕ → Result X Fault → Type 0
+IsComplete before after name result = (s : Known) → FilesTell before.told name (Ok s)
+    → (Rose before.faults after.faults → ⊥) → IfErr result (λ e. e ≡ fault.Memory)
+
+-- what told files give is what was read of them, unless a call failed or memory ran out
 abbrev pub ToldFilesSettle : Type 0
 ToldFilesSettle = (before after : FilesView) (name : List ℕ) (r told : Result Known Fault)
     → ReadsAll before after name r → FilesTell before.told name told

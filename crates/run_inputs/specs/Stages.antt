@@ -1,5 +1,5 @@
 -- What one call of the reader answers, for the calls above it.
-use Rattle.std.specs.Prelude.{◌≡◌, ◌<◌, ℕ, ◌+◌, false, List, [], length, Result, Ok, Err}
+use Rattle.std.specs.Prelude.{◌≡◌, ◌<◌, ◌⊎◌, ℕ, ◌+◌, false, List, [], length, Result, Ok, Err}
 use Rattle.text_lines.specs.Answers as answers
 use Rattle.plan_files.specs.declared.limits.What.TheVariants.{Bytes}
 use Rattle.plan_files.specs.declared.items.QueueLine.{QueueLine}
@@ -76,10 +76,11 @@ abbrev pub ReadOn : FilesView → List InputFile → Known → Known → Type 0
 ReadOn now files s t = (before after : FilesView) → IsEarlier before now
     → ReadsFiles before after files s (Ok t)
 
--- reading one of them ended by this fault
+-- memory ran out, or reading one of them ended by this fault
 abbrev pub StoppedIn : FilesView → FilesView → List InputFile → Known → Fault → Type 0
-StoppedIn now after files s f = (before : FilesView) → IsEarlier before now
-    → ReadsFiles before after files s (Err f)
+StoppedIn now after files s f =
+    (f ≡ fault.Memory)
+    ⊎ ((before : FilesView) → IsEarlier before now → ReadsFiles before after files s (Err f))
 
 -- the same of a target that these files start
 pub record StartsIn (now : FilesView) (files : List InputFile) (s : Known) (target : Kept)
@@ -102,9 +103,9 @@ EditsRefused l (fault.WriteFault n) = ⊥
 -- ---- capsule files
 
 -- this file was read, after files with so many bytes and so much room
-abbrev pub ReadsQueue : FilesView → FileNo → List ℕ → ℕ → ℕ → Counted → Type 0
-ReadsQueue now file name before room c = (s : Known) → s.input ≡ before → s.output ≡ room
-    → ReadsSo now.told name (CapsulesGive file s) (with_file s (Ok c))
+abbrev pub ReadsQueue : Told → FileNo → List ℕ → ℕ → ℕ → Counted → Type 0
+ReadsQueue told file name before room c = (s : Known) → s.input ≡ before → s.output ≡ room
+    → ReadsSo told name (CapsulesGive file s) (with_file s (Ok c))
 
 abbrev pub with_files : Known → List (List Capsule) → ℕ → ℕ → Known
 with_files s files input output = record s { files = files; input = input; output = output }
