@@ -105,6 +105,7 @@ impl Target {
         ensures does { IfOk result (λ reply. Simulates self.old (AnEdit line e.now) reply []
             self.new) }
         ensures others { IfOk result (λ _. LeavesOthers 0 self.old self.new) }
+        ensures held { IfOk result (λ _. self.new.held ≡ self.old.held) }
         ensures same { OnErr result (self.new ≡ self.old) }
     {
         let _line = line;
@@ -116,6 +117,7 @@ impl Target {
         requires { IsTrue (may_end self.old.tree self.old.held sub.now nsid) }
         ensures does { Simulates self.old (DrainEnd line sub.now nsid) result [] self.new }
         ensures others { LeavesOthers 0 self.old self.new }
+        ensures held { self.new.held ≡ self.old.held }
     {
         let _line = line;
         self.tree.end_drain(sub, nsid);

@@ -1,0 +1,14 @@
+pub mod More
+pub mod Placing
+pub mod Making
+pub mod Nexts
+pub mod Calling
+pub mod Filing
+pub mod Polling
+pub mod Turning
+pub mod Scripting
+pub mod Starting
+pub mod Pieces
+pub mod Assembling
+pub mod Concluding
+pub mod Spaces
