@@ -4,9 +4,9 @@
 mod journal;
 mod run;
 mod status;
-mod stub;
 mod summary;
 mod top;
+mod totals;
 mod words;
 mod writing;
 

@@ -22,12 +22,12 @@ ghost use Rattle.nvmet_run.specs.Refusals.{Refusal};
 
 use crate::journal::journal_of;
 use crate::status::Status;
-use crate::stub::{Served, serve};
 use crate::summary::summary_text;
 use crate::writing::write_files;
 use mem_bdev::Buffer;
 use plan_files::{Files, Gate, Plan, Sink};
 use run_inputs::{PlanInputs, file_name, read_plan_file, read_plan_inputs, told_files_settle};
+use run_serving::{Served, serve};
 use run_outcomes::{Fault, plans_have_apart_names, put_line, put_text};
 use std::alloc::{AllocError, Global};
 use std::sync::Wait;
@@ -54,7 +54,7 @@ fn serve_inputs(alloc: Global, inputs: &mut PlanInputs) -> Result<Printed, Alloc
 {
     let served = serve(alloc, &mut inputs.target, &inputs.script, &inputs.files)?;
     let journal = journal_of(alloc, served.places, &served.journal)?;
-    let text = summary_text(alloc, served.totals(), inputs.passed_over)?;
+    let text = summary_text(alloc, &served, inputs.passed_over)?;
     Ok(Printed {
         served,
         journal,

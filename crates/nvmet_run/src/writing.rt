@@ -7,9 +7,9 @@ ghost use Rattle.run_outcomes.specs.Outsides.{told_by, files_view};
 ghost use Rattle.run_outcomes.specs.Names.{journal_to_write, responses_to_write};
 ghost use Rattle.run_outcomes.specs.Written.{AreApart, Writes};
 
-use crate::stub::Output;
 use mem_bdev::Name;
 use plan_files::{Files, QueueLine};
+use run_serving::Output;
 use run_outcomes::{Fault, JOURNAL, responses_number, write_file};
 
 // Writes the journal, where the plan has one.
