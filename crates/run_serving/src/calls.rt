@@ -135,6 +135,7 @@ fn submit_one(
     output: &mut Output,
 ) -> Reply
     requires queue { HasQueue target.old queue }
+    requires not_admin { is_admin_in target.old queue ≡ false }
     requires idle { IsIdle target.old queue }
     requires opcode { entry.now.opcode ≢ FABRICS }
     requires few { output.old.calls < 4294967295 }

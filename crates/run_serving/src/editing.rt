@@ -16,7 +16,7 @@ use tree_target::{Reply, Target, disables};
 /// What the editor's calls have given so far: the journal's lines, and how many edits were accepted
 /// and refused and how many drains ended.
 #[derive(Drop)]
-pub struct Edited {
+pub(crate) struct Edited {
     pub lines: Vec<JournalLine>,
     pub accepted: u32,
     pub refused: u32,
@@ -25,7 +25,7 @@ pub struct Edited {
 
 impl Edited {
     /// No line, with room for those of so many edits: two each at the most.
-    pub fn new(alloc: Global, edits: usize) -> Result<Self, AllocError>
+    pub(crate) fn new(alloc: Global, edits: usize) -> Result<Self, AllocError>
         requires { edits ≤ 65536 }
         ensures journals { IfOk result (λ o. Journals o []) }
         ensures fresh { IfOk result (λ o. AreFew o 0) }
@@ -40,7 +40,7 @@ impl Edited {
     }
 
     /// Adds the line of an edit at its place, and counts it.
-    pub fn add_edit(&mut self, place: u32, line: u32, reply: &Reply) -> Result<(), AllocError>
+    pub(crate) fn add_edit(&mut self, place: u32, line: u32, reply: &Reply) -> Result<(), AllocError>
         requires { AreFew self.old 4294967294 }
         ensures adds { IfOk result (λ _. AddsLines self.old self.new (edit_line place line reply.now)
             (accepted_count reply.now) (errno_count reply.now) 0) }
@@ -71,7 +71,7 @@ impl Edited {
 
     /// Adds the line of a drain that ended at its place, and counts it. The line is that of the
     /// edit that began it.
-    pub fn add_done(&mut self, place: u32, line: u32) -> Result<(), AllocError>
+    pub(crate) fn add_done(&mut self, place: u32, line: u32) -> Result<(), AllocError>
         requires { AreFew self.old 4294967294 }
         ensures adds { IfOk result (λ _. AddsLines self.old self.new
             (journal.Done place line ∷ []) 0 0 1) }

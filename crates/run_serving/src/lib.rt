@@ -13,9 +13,10 @@ mod editing;
 mod files;
 mod output;
 mod rounds;
+#[cfg(test)]
+mod tests;
 mod calls;
 mod whole;
 
-pub use editing::Edited;
 pub use output::Output;
 pub use whole::{Served, serve};

@@ -120,7 +120,7 @@ impl Output {
     ghost use Rattle.run_serving.specs.Prints.{Adds, Counts, Prints};
 
     /// An output of no calls, with room for this many bytes of records.
-    pub fn new(alloc: Global, room: usize) -> Result<Self, AllocError>
+    pub(crate) fn new(alloc: Global, room: usize) -> Result<Self, AllocError>
         ensures prints { IfOk result (λ o. Prints o []) }
         ensures calls { IfOk result (λ o. o.calls ≡ 0) }
         ensures room { IfOk result (λ o. o.records ≡ record { bytes = []; room = room }) }
@@ -141,7 +141,7 @@ impl Output {
 
     /// Counts a call whose record was appended: it took `payload` bytes of data and gave `given`.
     #[inline(always)]
-    pub fn count(&mut self, kind: Kind, reply: &Reply, payload: usize, given: usize)
+    pub(crate) fn count(&mut self, kind: Kind, reply: &Reply, payload: usize, given: usize)
         requires few { self.old.calls < 4294967295 }
         requires payload { payload < 2 ^ 32 }
         requires given { given < 2 ^ 32 }
@@ -169,7 +169,7 @@ impl Output {
     /// Adds the record of a call that takes and gives no data, at its place. There is room for it,
     /// so it takes no memory.
     #[inline(always)]
-    pub fn add(&mut self, place: u32, kind: Kind, number: u32, reply: &Reply)
+    pub(crate) fn add(&mut self, place: u32, kind: Kind, number: u32, reply: &Reply)
         requires few { self.old.calls < 4294967295 }
         requires room { HasRoom self.old.records HEAD_BYTES }
         ensures adds { Adds self.old self.new place kind number reply.now 0 [] }
@@ -182,7 +182,7 @@ impl Output {
 }
 
 /// The head of the record of a call, with so many bytes of data after it.
-pub fn head(place: u32, kind: Kind, number: u32, reply: &Reply, len: u32) -> Head
+pub(crate) fn head(place: u32, kind: Kind, number: u32, reply: &Reply, len: u32) -> Head
     ensures { result ≡ head_of place kind number reply.now len }
 {
     Head {
