@@ -152,15 +152,15 @@ set_same : (cs : List ControllerRow) (b : Option CodeBound) (v : ℕ) → sets_d
 set_same cs None v off = refl
 set_same cs (Some b) v off = set_number_same cs b.ctrl v off
 
-answer_fixed : (t : Target) (queue : ℕ) (name : List ℕ) (b : Binding) (a : Answer)
+answer_fixed : (t : Target) (queue : ℕ) (e : Sqe) (name : List ℕ) (b : Binding) (a : Answer)
     → publishes_answer t.controllers (placed t.tree b) a ≡ false
-    → fixed (after_answer t queue name b a) ≡ fixed t
+    → fixed (after_answer t queue e name b a) ≡ fixed t
 unfolding tree_after controllers_after publishes_answer
-answer_fixed t queue name b (Refused fault) off = refl
-answer_fixed t queue name b (Makes bound host) off = absurd (both_ways true off refl)
-answer_fixed t queue name b (Joins bound) off = absurd (both_ways true off refl)
-answer_fixed t queue name b (Reads value) off = refl
-answer_fixed t queue name b (Sets value) off =
+answer_fixed t queue e name b (Refused fault) off = refl
+answer_fixed t queue e name b (Makes bound host) off = absurd (both_ways true off refl)
+answer_fixed t queue e name b (Joins bound) off = absurd (both_ways true off refl)
+answer_fixed t queue e name b (Reads value) off = refl
+answer_fixed t queue e name b (Sets value) off =
     ap (λ (cs : List ControllerRow). with_controllers t cs)
     (set_same t.controllers (placed t.tree b).bound value off)
 
@@ -168,7 +168,7 @@ control_fixed : (t : Target) (queue : ℕ) (e : Sqe) (payload : List ℕ) (b : O
     → publishes t e payload b ≡ false → fixed (after_control t queue e payload b) ≡ fixed t
 control_fixed t queue e payload None off = refl
 control_fixed t queue e payload (Some b) off =
-    answer_fixed t queue (subsystem_in payload) b (answer_on t e payload b) off
+    answer_fixed t queue e (subsystem_in payload) b (answer_on t e payload b) off
 
 abbrev settled : Target → Settings → Fixed
 settled t s = record { settings = s; controllers = t.controllers }

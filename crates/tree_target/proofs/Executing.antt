@@ -69,6 +69,7 @@ executed_on k t queue number payload h is st = record {
         blocks = ap (worked h.job payload) st.blocks;
         bindings = st.bindings;
         held = ap (without (is_command queue number)) st.held;
+        events = st.events;
       });
 }
 
@@ -134,6 +135,7 @@ executed_is_kept k room queue number payload h s e asked =
       few_queues = s.few_queues;
       room = s.room;
       joined = s.joined;
+      states = s.states;
     }
 
 -- ---- what it leaves to other queues

@@ -38,4 +38,5 @@ simple_stands d = record {
     tt,
   );
   held = refl;
+  events = refl;
 }

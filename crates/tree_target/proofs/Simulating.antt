@@ -74,6 +74,7 @@ stands_after k t t' call e st = record {
   bindings = subst (λ (b : List Binding). AreBound k.tree k.bindings b)
       (ap (λ (x : Target). x.bindings) (sym e)) st.bindings;
   held = ap (λ (x : Target). x.held) e ∙ st.held;
+  events = ap (λ (x : Target). x.events) e ∙ st.events;
 }
 
 -- ---- what is left to the queues where bindings, held commands and disks stay
@@ -119,6 +120,7 @@ accepted_does k line e u change g stays t st =
             blocks = st.blocks;
             bindings = are_bound_along k.tree u k.bindings t.bindings stays st.bindings;
             held = st.held;
+            events = st.events;
           });
     }
 
@@ -170,6 +172,7 @@ tree_kept k room u e s = record {
   few_queues = s.few_queues;
   room = s.room;
   joined = joined_along k.tree u k.controllers k.bindings e s.joined;
+  states = s.states;
 }
 
 -- after an edit, whatever it answers
@@ -236,6 +239,7 @@ drained_does k line sub nsid may t st = record {
         (same_settings k.tree (drained k.tree sub nsid) (drained_settings k.tree sub nsid))
         st.bindings;
     held = st.held;
+    events = st.events;
   };
 }
 

@@ -32,6 +32,7 @@ start_stands t lines ports = record {
   blocks = refl;
   bindings = bound_none t ports;
   held = refl;
+  events = refl;
 }
 
 -- ---- loading

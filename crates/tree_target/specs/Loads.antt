@@ -69,6 +69,7 @@ kept_start t lines ports = record {
   blocks = map blank_of lines;
   bindings = map code_unconnected ports;
   held = [];
+  events = [];
 }
 
 -- what loading a tree answers

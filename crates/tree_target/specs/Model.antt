@@ -3,6 +3,7 @@ use Rattle.std.specs.Prelude.{ℕ, zero, suc, ◌==◌, ◌&&◌, Bool, List, Op
 use Rattle.mem_bdev.specs.Blocks.{Blocks}
 use Rattle.sqe_cqe.specs.declared.sqe.Sqe.{Sqe}
 use Rattle.sqe_cqe.specs.declared.controllers.ControllerRow.{ControllerRow}
+use Rattle.admin_commands.specs.Admin.{Own}
 use Rattle.configfs_tree.specs.declared.configuration.Configuration.{Configuration}
 use Rattle.tree_target.specs.declared.calls.Reply.{Reply}
 use Rattle.tree_target.specs.declared.calls.Command.{Command}
@@ -43,11 +44,6 @@ pub record Binding : Type 0 where
   pub port : ℕ
   pub bound : Option Bound
 
--- what the own calls of a controller's admin queue keep: the identifiers of the event requests that
--- wait, the last first
-pub record EventRequests : Type 0 where
-  pub waiting : List ℕ
-
 pub record Target : Type 0 where
   -- the configuration, and which namespace holds each disk
   pub tree : Configuration
@@ -59,8 +55,8 @@ pub record Target : Type 0 where
   pub bindings : List Binding
   -- in the order of their submits
   pub held : List Command
-  -- of the controllers, in their order
-  pub events : List EventRequests
+  -- what the own commands of each controller keep, in the order of their numbers
+  pub events : List Own
   pub history : List Entry
 
 -- ---- callers

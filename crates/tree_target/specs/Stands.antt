@@ -44,6 +44,7 @@ pub record StandsFor (k : Kept) (t : Target) : Type 0 where
   pub blocks : t.blocks ≡ k.blocks
   pub bindings : AreBound k.tree k.bindings t.bindings
   pub held : t.held ≡ k.held
+  pub events : t.events ≡ k.events
 
 -- a call was lawful, replied so, gave these bytes and left this target, as the model does
 pub record Does (t : Target) (call : Call) (reply : Reply) (bytes : List ℕ) (k : Kept)

@@ -19,7 +19,7 @@ use Rattle.tree_target.specs.declared.calls.Command.{Command}
 use Rattle.tree_target.specs.Edits.{outcome}
 use Rattle.tree_target.specs.Model.{Call, Submit, Execute, Poll, Control, AnEdit, DrainEnd, Entry, Target, held_at, binding_at, bound_at, qid_of, is_command}
 use Rattle.tree_target.specs.Views.{space_in, subsystem_named}
-use Rattle.tree_target.specs.Admission.{Admission, Completes, Waits, Holds, admission}
+use Rattle.tree_target.specs.Admission.{Admission, Completes, Waits, Holds, admission, events_submitted}
 use Rattle.tree_target.specs.Controls.{controlled, after_control}
 
 -- ---- drains
@@ -160,7 +160,9 @@ after_edit t (Accepts u change) = record t { tree = u }
 
 -- the target after a call, but for its history
 unfoldable pub changed : Target → Call → Target
-changed t (Submit queue number e) = after_submit t queue number e.cid (admission t queue e)
+changed t (Submit queue number e) = record (after_submit t queue number e.cid (admission t queue e)) {
+  events = events_submitted t queue e;
+}
 changed t (Execute queue number payload) = after_execute t queue number payload
     (held_at t queue number)
 changed t (Poll queue) = t

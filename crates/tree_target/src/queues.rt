@@ -1,5 +1,5 @@
 // The calls of queues.
-ghost use Rattle.std.specs.Prelude.{◌≡◌, ◌≢◌, ◌+◌, [], IsTrue, true, length};
+ghost use Rattle.std.specs.Prelude.{◌≡◌, ◌≢◌, ◌+◌, [], IsTrue, true, false, length};
 ghost use Rattle.mem_bdev.specs.Texts.{HasRoom, appended};
 ghost use Rattle.sqe_cqe.specs.Sqe.{direction_of, payload_len, host_len};
 ghost use Rattle.sqe_cqe.specs.declared.codes.TheConstants.{FABRICS};
@@ -8,6 +8,7 @@ ghost use Rattle.tree_target.specs.Kept.{HasQueue, IsIdle, IsHolding, LeavesOthe
 ghost use Rattle.tree_target.specs.Model.{Submit, Execute, Poll, Control};
 ghost use Rattle.tree_target.specs.Stands.{Simulates, SubmitsAdmin};
 
+use crate::admin::{add_state, replied, serve};
 use crate::calls::{Command, Reply};
 use crate::commands::{take_command, work};
 use crate::look::TreeLook;
@@ -41,20 +42,18 @@ impl Target {
         let Some(bound) = self.bound(queue) else {
             return Admit::Refused(INVALID_OPCODE);
         };
-        if bound.qid == 0 {
-            return Admit::Refused(INVALID_OPCODE);
-        }
         let mut look = TreeLook::new(&self.tree, &self.controllers, &self.disks);
         admit_io(&bound, e, &mut look)
     }
 
-    /// Submits a command of a queue: it is answered with the status of the first check that fails,
-    /// or held. `number` is the capsule's number in its file, from 0. The queue's last command was
+    /// Submits a command of a queue that isn't an admin queue (`is_admin` tells): it is answered with
+    /// the status of the first check that fails, or held. `number` is the capsule's number in its file, from 0. The queue's last command was
     /// executed. A command that is held asks for as many bytes of data, both ways, as its entry
     /// names. Takes no memory.
     pub fn submit(&mut self, queue: u32, number: u32, e: &Sqe) -> Reply
         requires queue { HasQueue self.old queue }
         requires idle { IsIdle self.old queue }
+        requires not_admin { is_admin_in self.old queue ≡ false }
         ensures does { Simulates self.old (Submit queue number e.now) result [] self.new }
         ensures held { result ≡ Reply.Held →
             IsHolding self.new queue number (payload_len e.now) (host_len e.now) }
@@ -105,9 +104,10 @@ impl Target {
         complete(qid, command.cid, SUCCESS)
     }
 
-    /// Submits a command of a connected admin queue; data for the host are appended to `to`, which
-    /// has room for as many as the entry names. No command is served yet, so each is answered
-    /// with Invalid Opcode. `number` is the capsule's number in its file, from 0. Takes no memory.
+    /// Submits a command of a connected admin queue (`is_admin` tells): it is answered, or an event
+    /// request waits, by `admin_commands::admit_admin`. Data for the host are appended to `to`,
+    /// which has room for as many as the entry names. `number` is the capsule's number in its file,
+    /// from 0. The queue's last command was executed. Takes no memory.
     pub fn submit_admin(&mut self, queue: u32, number: u32, e: &Sqe, to: &mut Buffer) -> Reply
         requires queue { HasQueue self.old queue }
         requires idle { IsIdle self.old queue }
@@ -124,8 +124,20 @@ impl Target {
         self.tree.certify();
         subsystem_positions(&self.tree);
         port_positions(&self.tree);
-        let _input = (number, to.len());
-        complete(self.qid(queue), e.cid, INVALID_OPCODE)
+        let _number = number;
+        let Some(bound) = self.bound(queue) else {
+            unreachable!();
+        };
+        let reply = serve(
+            &self.tree,
+            &self.controllers,
+            &self.disks,
+            &mut self.states,
+            &bound,
+            e,
+            to,
+        );
+        replied(reply, bound.qid, e.cid)
     }
 
     /// Polls the admin queue of a controller: it gets the completion of an event request, or no
@@ -169,6 +181,7 @@ impl Target {
             payload,
         );
         self.bindings[at] = binding;
+        add_state(&mut self.states, &told.made, e);
         Reply::Answered(told.cqe)
     }
 }

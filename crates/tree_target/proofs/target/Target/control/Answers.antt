@@ -1,10 +1,17 @@
-use Rattle.std.proofs.Common.{◌≡◌, ◌≤◌, ◌<◌, ℕ, ◌-◌, suc, length, get_or, List, Some, slice_get, refl, ap, arith}
+use Rattle.std.proofs.Common.{◌≡◌, ◌≤◌, ◌<◌, ℕ, ◌-◌, suc, length, get_or, List, Option, Some, slice_get, refl, ap, ◌∙◌, arith}
 use Rattle.std.proofs.lemmas.Option.{slice_get_read}
 use Rattle.sqe_cqe.specs.declared.controllers.Binding.{Binding}
-use Rattle.fabrics_connect.specs.After.{told_by}
-use Rattle.tree_target.specs.Kept.{Kept, HasQueue}
+use Rattle.sqe_cqe.specs.declared.sqe.Sqe.{Sqe}
+use Rattle.sqe_cqe.specs.declared.controllers.Ctrl.{Ctrl}
+use Rattle.configfs_tree.specs.declared.configuration.Configuration.{Configuration}
+use Rattle.admin_commands.specs.Admin.{Own}
+use Rattle.fabrics_connect.specs.declared.answer.Answer.{Answer}
+use Rattle.fabrics_connect.specs.declared.answer.Control.{Control}
+use Rattle.fabrics_connect.specs.After.{told_by, made_by}
+use Rattle.tree_target.specs.Controls.{events_after}
+use Rattle.tree_target.specs.Kept.{Kept, HasQueue, states_made}
 use Rattle.tree_target.specs.contracts.target.Target.{the_view}
-use Rattle.tree_target.proofs.Controlling.{control_does, control_kept, control_leaves, has_room}
+use Rattle.tree_target.proofs.Controlling.{control_does, control_kept, control_leaves, has_room, made_same, made_room}
 use Rattle.tree_target.proofs.target.Target.control.Goals as goal
 
 next : (queue : ℕ) → 1 ≤ queue → queue ≡ suc (queue - 1)
@@ -25,11 +32,28 @@ control-told-requires-clause-room c = has_room (the_view c.self.inside) _ (c.arg
     (read_at (the_view c.self.inside) c.args.self.now c.args.queue c.index.result.now
     c.self.view_is c.requires.queue c.index.ensures) c.self.invariant
 
+states_are : (t : Configuration) (os new : List Own) (e : Sqe) (a : Answer) (made : Option Ctrl)
+    → made ≡ made_by t a → new ≡ states_made os e made → new ≡ events_after os e a
+states_are t os new e a made is e1 =
+    e1 ∙ (ap (states_made os e) is ∙ made_same t os e a)
+
+pub add_state-requires : goal.add_state-requires
+unfolding told_by
+add_state-requires c =
+    let told = c.control-told in
+    rw told.ensures.told
+    (made_room c.self.inside.tree c.self.inside.controllers c.self.inside.states _
+    told.ensures.accepted c.self.invariant.states)
+
 pub invariant_of-self : goal.invariant_of-self
+unfolding told_by
 invariant_of-self c =
     let told = c.control-told in
+    let states = states_are c.self.inside.tree c.self.inside.states c.add_state.new.states
+    c.args.e.now _ told.result.made (ap (λ (x : Control). x.made) told.ensures.told)
+    c.add_state.ensures in
     let counted = rw (told.ensures.tree, told.ensures.controllers) at told.ensures.attached in
-    rw (told.ensures.tree, told.ensures.controllers, told.ensures.binding)
+    rw (told.ensures.tree, told.ensures.controllers, told.ensures.binding, states)
     (control_kept (the_view c.self.inside) (c.args.queue - 1) c.args.number c.args.e.now
     c.args.payload.now c.index.result.now c.certify.ensures c.self.invariant.joined
     told.ensures.accepted _
@@ -40,12 +64,16 @@ pub returns-clause-does : goal.returns-clause-does
 unfolding told_by
 returns-clause-does c =
     let told = c.control-told in
+    let states = states_are c.self.inside.tree c.self.inside.states c.add_state.new.states
+    c.args.e.now _ told.result.made (ap (λ (x : Control). x.made) told.ensures.told)
+    c.add_state.ensures in
     rw (
       ← c.self.view_is,
       told.ensures.told,
       told.ensures.tree,
       told.ensures.controllers,
       told.ensures.binding,
+      states,
     )
     (control_does (the_view c.self.inside) (c.args.queue - 1) c.args.number c.args.e.now
     c.args.payload.now c.index.result.now c.certify.ensures c.self.invariant.joined
@@ -54,13 +82,19 @@ returns-clause-does c =
     c.self.view_is c.requires.queue c.index.ensures))
 
 pub returns-clause-others : goal.returns-clause-others
+unfolding told_by
 returns-clause-others c =
     let told = c.control-told in
+    let states = states_are c.self.inside.tree c.self.inside.states c.add_state.new.states
+    c.args.e.now _ told.result.made (ap (λ (x : Control). x.made) told.ensures.told)
+    c.add_state.ensures in
     rw (
       ← c.self.view_is,
       told.ensures.tree,
       told.ensures.controllers,
       told.ensures.binding,
+      states,
     )
-    (control_leaves (the_view c.self.inside) c.args.queue (c.args.queue - 1) c.index.result.now _
+    (control_leaves (the_view c.self.inside) c.args.queue (c.args.queue - 1) c.args.e.now
+    c.index.result.now _
     (next c.args.queue c.requires.queue.low))
