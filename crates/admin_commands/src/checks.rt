@@ -8,6 +8,9 @@ use sqe_cqe::{
     COMMAND_SEQUENCE_ERROR, Ctrl, INVALID_FIELD, INVALID_OPCODE, Look, SGL, SUCCESS, Sqe,
 };
 
+/// Opcode of Get Log Page.
+pub const GET_LOG_PAGE: u8 = 0x02;
+
 /// Opcode of Identify.
 pub const IDENTIFY: u8 = 0x06;
 
@@ -24,7 +27,8 @@ pub const KEEP_ALIVE: u8 = 0x18;
 fn is_known(opcode: u8) -> bool
     ensures { result ≡ is_admin_opcode opcode }
 {
-    opcode == IDENTIFY
+    opcode == GET_LOG_PAGE
+        || opcode == IDENTIFY
         || opcode == ABORT
         || opcode == SET_FEATURES
         || opcode == GET_FEATURES
