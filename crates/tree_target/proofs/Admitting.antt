@@ -22,16 +22,20 @@ use Rattle.configfs_rows.specs.declared.namespaces.NamespaceRow.{NamespaceRow}
 use Rattle.configfs_rows.specs.declared.subsystems.SubsystemRow.{SubsystemRow}
 use Rattle.configfs_rows.specs.declared.ports.PortRow.{PortRow}
 use Rattle.configfs_tree.specs.declared.configuration.Configuration.{Configuration}
-use Rattle.configfs_tree.specs.Links.{subsystem_row, port_row, SubsystemPositions, PortPositions}
+use Rattle.configfs_tree.specs.Links.{subsystem_row, port_row, subsystem_place, port_place, SubsystemPositions, PortPositions}
 use Rattle.configfs_tree.specs.Standing.{IsStanding}
 use Rattle.configfs_tree.specs.Stays.{SubsystemAt, PortAt}
-use Rattle.admin_commands.specs.Admin.{Own}
+use Rattle.async_events.specs.declared.events.Events.{Events}
 use Rattle.tree_target.specs.declared.calls.Command.{Command}
 use Rattle.tree_target.specs.declared.calls.Reply.TheVariants as replies
 use Rattle.tree_target.specs.Model.{Submit, Control, Bound, Binding, Target, binding_in, bound_of, bound_at, qid_of, is_command}
 use Rattle.tree_target.specs.Views.{space_in, row_of, on_blocks, on_disk, seen_of, seen_from, subsystem_named, port_named, view_at}
+use Rattle.std.specs.Option.{unwrap_or}
+use Rattle.change_stamps.specs.Stamps.{Stamps}
+use Rattle.admin_commands.specs.Admin.{events_after, polled}
+use Rattle.tree_target.specs.Controls.{subsystem_placed, port_placed, placed_bound}
 use Rattle.tree_target.specs.Looked.{tree_answers}
-use Rattle.tree_target.specs.Admission.{Admission, Holds, refused, of_admit, of_qid, of_bound, of_binding, admission, events_by_qid, events_by_bound, events_by_binding, events_submitted}
+use Rattle.tree_target.specs.Admission.{Admission, Holds, refused, of_admit, of_qid, of_bound, of_binding, admission, events_by_qid, events_by_bound, events_by_binding, events_submitted, events_polled, event_by_qid, event_by_bound, event_by_binding, event_at}
 use Rattle.tree_target.specs.Steps.{reply_of, bytes_of, changed, submitted, bytes_submitted, after_submit, command_of}
 use Rattle.tree_target.specs.Kept.{Kept, HasQueue, IsKept, IsNumbered, IsIdle, IsHolding, LeavesOthers, Fits, FitsOn, HasDataOn, HasDataOf, given_on, given_of, AdmitsOn, AdmitFits, bound_from, bound_in, qid_from, seen_by, by_bound, admission_by, answered, is_of, is_admin_bound, is_admin_in}
 use Rattle.tree_target.specs.Stands.{IsBound, IsBoundAs, AreBound, StandsFor, Simulates}
@@ -63,23 +67,41 @@ pub grouped_at : (t : Configuration) (at n : ℕ) (row : NamespaceRow) → IsSta
     → SubsystemPositions t → space_in n (subsystem_row t at) ≡ Some row → row.group ≤ 128
 grouped_at t at n row h p e = grouped_row t at n row (subsystem_row t at) h p refl e
 
+-- ---- the positions of the model's names are those that the program keeps
+pub bound_placed : (t : Configuration) (port : ℕ) (c : CodeBound) (m : Bound) → IsBound t port c m
+    → placed_bound t port m ≡ c
+bound_placed t port c m b = λ i. record {
+  ctrl = b.ctrl i;
+  qid = b.qid i;
+  sub = (ap (λ (o : Option SubsystemRow). unwrap_or (subsystem_place o) 0) b.sub.found
+      ∙ b.sub.at_is) i;
+  port = (ap (λ (o : Option PortRow). unwrap_or (port_place o) 0) b.at_port.found
+      ∙ b.at_port.at_is) i;
+}
+
 -- ---- the view
-seen_along : (t u : Configuration) (cs ds : List ControllerRow) (bs es : List Blocks) (c d : ℕ)
-    (s r : Option SubsystemRow) (p q : Option PortRow) → t ≡ u → cs ≡ ds → bs ≡ es → c ≡ d → s ≡ r
-    → p ≡ q → seen_from t cs bs c s p ≡ seen_from u ds es d r q
-seen_along t u cs ds bs es c d s r p q e1 e2 e3 e4 e5 e6 = rw (e1, e2, e3, e4, e5, e6) refl
+seen_along : (t u : Configuration) (cs ds : List ControllerRow) (bs es : List Blocks)
+    (x y : Stamps) (c d : ℕ) (s r : Option SubsystemRow) (p q : Option PortRow) (n m k l : ℕ)
+    → t ≡ u → cs ≡ ds → bs ≡ es → x ≡ y → c ≡ d → s ≡ r → p ≡ q → n ≡ m → k ≡ l
+    → seen_from t cs bs x c s p n k ≡ seen_from u ds es y d r q m l
+seen_along t u cs ds bs es x y c d s r p q n m k l e1 e2 e3 e4 e5 e6 e7 e8 e9 =
+    rw (e1, e2, e3, e4, e5, e6, e7, e8, e9) refl
 
 pub same_view : (k : Kept) (t : Target) (port : ℕ) (c : CodeBound) (m : Bound)
     → SubsystemPositions k.tree → PortPositions k.tree → StandsFor k t → IsBound k.tree port c m
-    → view_at t port m ≡ view_of (tree_answers k.tree k.controllers k.blocks) c
+    → view_at t port m ≡ view_of (tree_answers k.tree k.controllers k.blocks k.stamps) c
 same_view k t port c m hs hp st b =
-    seen_along t.tree k.tree t.controllers k.controllers t.blocks k.blocks m.controller c.ctrl
-    (subsystem_named t.tree m.subsystem) (subsystem_row k.tree c.sub) (port_named t.tree port)
-    (port_row k.tree c.port) st.tree st.controllers st.blocks b.ctrl
+    let place : placed_bound t.tree port m ≡ c =
+    ap (λ (x : Configuration). placed_bound x port m) st.tree ∙ bound_placed k.tree port c m b in
+    seen_along t.tree k.tree t.controllers k.controllers t.blocks k.blocks t.stamps k.stamps
+    m.controller c.ctrl (subsystem_named t.tree m.subsystem) (subsystem_row k.tree c.sub)
+    (port_named t.tree port) (port_row k.tree c.port) (subsystem_placed t.tree m.subsystem) c.sub
+    (port_placed t.tree port) c.port st.tree st.controllers st.blocks st.stamps b.ctrl
     (ap (λ (x : Configuration). subsystem_named x m.subsystem) st.tree
     ∙ sym (row_of_sub k.tree m.subsystem c.sub hs b.sub))
     (ap (λ (x : Configuration). port_named x port) st.tree
     ∙ sym (row_of_port k.tree port c.port hp b.at_port))
+    (ap (λ (x : CodeBound). x.sub) place) (ap (λ (x : CodeBound). x.port) place)
 
 -- ---- the binding of a queue
 abbrev pub Both : Configuration → Option CodeBinding → Option Binding → Type 0
@@ -154,38 +176,72 @@ module _ (k : Kept) (t : Target) (e : Sqe) (hs : SubsystemPositions k.tree)
   unfolding admission admission_by
   admission_is queue io = by_queue queue io
 
-  -- ---- a command of another queue leaves what controllers keep
-  left_by_qid : (port : ℕ) (m : Bound) (q : ℕ) → (q == 0) ≡ false
-      → events_by_qid t e port m q ≡ t.events
-  left_by_qid port m zero io = absurd (both_ways true io refl)
-  left_by_qid port m (suc q) io = refl
+-- ---- a call of another queue leaves the events of controllers
+module _ (k : Kept) (t : Target) (st : StandsFor k t) where
+  left_by_qid : (f : View → Events → Events) (port : ℕ) (m : Bound) (q : ℕ) → (q == 0) ≡ false
+      → events_by_qid t f port m q ≡ t.events
+  left_by_qid f port m zero io = absurd (both_ways true io refl)
+  left_by_qid f port m (suc q) io = refl
 
-  left_by_bound : (port : ℕ) (c : Option CodeBound) (m : Option Bound) → is_admin_bound c ≡ false
-      → IsBoundAs k.tree port c m → events_by_bound t e port m ≡ t.events
-  left_by_bound port None None io b = refl
-  left_by_bound port None (Some m) io b = absurd b
-  left_by_bound port (Some c) None io b = absurd b
-  left_by_bound port (Some c) (Some m) io b =
-      ap (events_by_qid t e port m) b.qid ∙ left_by_qid port m c.qid io
+  left_by_bound : (f : View → Events → Events) (port : ℕ) (c : Option CodeBound)
+      (m : Option Bound) → is_admin_bound c ≡ false → IsBoundAs k.tree port c m
+      → events_by_bound t f port m ≡ t.events
+  left_by_bound f port None None io b = refl
+  left_by_bound f port None (Some m) io b = absurd b
+  left_by_bound f port (Some c) None io b = absurd b
+  left_by_bound f port (Some c) (Some m) io b =
+      ap (events_by_qid t f port m) b.qid ∙ left_by_qid f port m c.qid io
 
-  left_by_binding : (c : Option CodeBinding) (m : Option Binding)
+  left_by_binding : (f : View → Events → Events) (c : Option CodeBinding) (m : Option Binding)
       → is_admin_bound (bound_from c) ≡ false → Both k.tree c m
-      → events_by_binding t e m ≡ t.events
-  left_by_binding None None io b = refl
-  left_by_binding None (Some m) io b = absurd b
-  left_by_binding (Some c) None io b = absurd b
-  left_by_binding (Some c) (Some m) io b = left_by_bound m.port c.bound m.bound io b.1
+      → events_by_binding t f m ≡ t.events
+  left_by_binding f None None io b = refl
+  left_by_binding f None (Some m) io b = absurd b
+  left_by_binding f (Some c) None io b = absurd b
+  left_by_binding f (Some c) (Some m) io b = left_by_bound f m.port c.bound m.bound io b.1
 
-  left_by_queue : (queue : ℕ) → is_admin_in k queue ≡ false
-      → events_by_binding t e (binding_in t.bindings queue) ≡ t.events
-  left_by_queue zero io = refl
-  left_by_queue (suc q) io = left_by_binding (slice_get k.bindings q) (slice_get t.bindings q) io
-      (both_at k.tree k.bindings t.bindings q st.bindings)
+  left_by_queue : (f : View → Events → Events) (queue : ℕ) → is_admin_in k queue ≡ false
+      → events_by_binding t f (binding_in t.bindings queue) ≡ t.events
+  left_by_queue f zero io = refl
+  left_by_queue f (suc q) io = left_by_binding f (slice_get k.bindings q) (slice_get t.bindings q)
+      io (both_at k.tree k.bindings t.bindings q st.bindings)
 
-  pub events_left : (queue : ℕ) → is_admin_in k queue ≡ false
+  pub events_left : (queue : ℕ) (e : Sqe) → is_admin_in k queue ≡ false
       → events_submitted t queue e ≡ t.events
   unfolding events_submitted
-  events_left queue io = left_by_queue queue io
+  events_left queue e io = left_by_queue (λ v o. events_after v o e) queue io
+
+  -- ---- and a poll of it gets no event
+  none_by_qid : (port : ℕ) (m : Bound) (q : ℕ) → (q == 0) ≡ false
+      → event_by_qid t port m q ≡ None
+  none_by_qid port m zero io = absurd (both_ways true io refl)
+  none_by_qid port m (suc q) io = refl
+
+  none_by_bound : (port : ℕ) (c : Option CodeBound) (m : Option Bound) → is_admin_bound c ≡ false
+      → IsBoundAs k.tree port c m → event_by_bound t port m ≡ None
+  none_by_bound port None None io b = refl
+  none_by_bound port None (Some m) io b = absurd b
+  none_by_bound port (Some c) None io b = absurd b
+  none_by_bound port (Some c) (Some m) io b =
+      ap (event_by_qid t port m) b.qid ∙ none_by_qid port m c.qid io
+
+  none_by_binding : (c : Option CodeBinding) (m : Option Binding)
+      → is_admin_bound (bound_from c) ≡ false → Both k.tree c m → event_by_binding t m ≡ None
+  none_by_binding None None io b = refl
+  none_by_binding None (Some m) io b = absurd b
+  none_by_binding (Some c) None io b = absurd b
+  none_by_binding (Some c) (Some m) io b = none_by_bound m.port c.bound m.bound io b.1
+
+  none_by_queue : (queue : ℕ) → is_admin_in k queue ≡ false
+      → event_by_binding t (binding_in t.bindings queue) ≡ None
+  none_by_queue zero io = refl
+  none_by_queue (suc q) io = none_by_binding (slice_get k.bindings q) (slice_get t.bindings q) io
+      (both_at k.tree k.bindings t.bindings q st.bindings)
+
+  pub none_polled : (queue : ℕ) → is_admin_in k queue ≡ false
+      → (event_at t queue ≡ None) × (events_polled t queue ≡ t.events)
+  unfolding event_at events_polled
+  none_polled queue io = (none_by_queue queue io, left_by_queue polled queue io)
 
 -- ---- what is admitted lies on its disk
 taken_data : (job : Job) (shift len : ℕ) → taken_len job shift ≡ len → HasData job shift len
@@ -234,7 +290,7 @@ fits_admit e blocks n (Run job) f = fits_space e blocks job n f
 
 -- ---- submits
 refused_like : (k : Kept) (t : Target) (queue number : ℕ) (e : Sqe) (status : ℕ)
-    (a : Admission) (events : List Own) → a ≡ refused status → events ≡ t.events → StandsFor k t
+    (a : Admission) (events : List Events) → a ≡ refused status → events ≡ t.events → StandsFor k t
     → StandsFor k (record (after_submit t queue number e.cid a) { events = events })
 refused_like k t queue number e status a events x y st = rw (x, y) (record {
   tree = st.tree;
@@ -243,6 +299,7 @@ refused_like k t queue number e status a events x y st = rw (x, y) (record {
   bindings = st.bindings;
   held = st.held;
   events = st.events;
+  stamps = st.stamps;
 })
 
 pub refused_does : (k : Kept) (queue number : ℕ) (e : Sqe) (status : ℕ)
@@ -261,14 +318,14 @@ refused_does k queue number e status hs hp io is t st =
       bytes_are = ap bytes_submitted a;
       stands = stands_after k t (changed t (Submit queue number e)) (Submit queue number e) refl
           (refused_like k t queue number e status (admission t queue e)
-          (events_submitted t queue e) a (events_left k t e hs hp st queue io) st);
+          (events_submitted t queue e) a (events_left k t st queue e io) st);
     }
 
 abbrev pub with_held : Kept → Command → Kept
 with_held k h = record k { held = k.held ++ h ∷ [] }
 
 held_like : (k : Kept) (t : Target) (queue number : ℕ) (e : Sqe) (job : Job) (a : Admission)
-    (events : List Own) → a ≡ Holds job → events ≡ t.events → StandsFor k t
+    (events : List Events) → a ≡ Holds job → events ≡ t.events → StandsFor k t
     → StandsFor (with_held k (command_of queue number e.cid job))
     (record (after_submit t queue number e.cid a) { events = events })
 held_like k t queue number e job a events x y st = rw (x, y) (record {
@@ -278,6 +335,7 @@ held_like k t queue number e job a events x y st = rw (x, y) (record {
   bindings = st.bindings;
   held = ap (λ (hs : List Command). hs ++ command_of queue number e.cid job ∷ []) st.held;
   events = st.events;
+  stamps = st.stamps;
 })
 
 pub held_does : (k : Kept) (queue number : ℕ) (e : Sqe) (job : Job) → SubsystemPositions k.tree
@@ -295,7 +353,7 @@ held_does k queue number e job hs hp io is t st =
       stands = stands_after (with_held k (command_of queue number e.cid job)) t
           (changed t (Submit queue number e)) (Submit queue number e) refl
           (held_like k t queue number e job (admission t queue e) (events_submitted t queue e) a
-          (events_left k t e hs hp st queue io) st);
+          (events_left k t st queue e io) st);
     }
 
 numbered : (k : Kept) (queue number cid : ℕ) (job : Job) → HasQueue k queue

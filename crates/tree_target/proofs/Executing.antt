@@ -70,6 +70,7 @@ executed_on k t queue number payload h is st = record {
         bindings = st.bindings;
         held = ap (without (is_command queue number)) st.held;
         events = st.events;
+        stamps = st.stamps;
       });
 }
 

@@ -9,9 +9,10 @@ use Rattle.sqe_cqe.specs.declared.rows.Seen.TheVariants.{NotConfigured, Off, On}
 use Rattle.sqe_cqe.specs.declared.controllers.Bound.{Bound as PlacedBound}
 use Rattle.sqe_cqe.specs.declared.controllers.ControllerRow.{ControllerRow}
 use Rattle.sqe_cqe.specs.Answers.{View}
+use Rattle.async_events.specs.declared.events.Events.{Events}
 use Rattle.admin_commands.specs.declared.admit.AdminReply.{AdminReply}
 use Rattle.admin_commands.specs.declared.admit.AdminReply.TheVariants as admin
-use Rattle.admin_commands.specs.Admin.{Own, admin_reply, admin_bytes}
+use Rattle.admin_commands.specs.Admin.{admin_reply, admin_bytes}
 use Rattle.fabrics_connect.specs.Checks.{numbered}
 use Rattle.io_commands.specs.declared.jobs.Job.{Job}
 use Rattle.io_commands.specs.declared.jobs.Admit.{Admit}
@@ -26,7 +27,7 @@ use Rattle.tree_target.specs.declared.calls.Reply.TheVariants as replies
 use Rattle.tree_target.specs.Edits.{outcome}
 use Rattle.tree_target.specs.Model.{Call, Submit, Execute, Poll, Control, AnEdit, DrainEnd, Bound, Binding, Target, is_command, held_at, binding_at}
 use Rattle.tree_target.specs.Views.{space_in, row_of, on_blocks, on_disk, seen_of, subsystem_named, view_at}
-use Rattle.tree_target.specs.Admission.{Admission, Completes, Waits, Holds as HoldsJob, of_reply, own_numbered, as_bound, of_controller, of_admit, of_qid, of_bound, of_binding, admission}
+use Rattle.tree_target.specs.Admission.{Admission, Completes, Waits, Holds as HoldsJob, of_reply, events_numbered, as_bound, of_controller, of_admit, of_qid, of_bound, of_binding, admission}
 use Rattle.tree_target.specs.Controls.{placed_bound, after_control}
 use Rattle.tree_target.specs.Steps.{reply_of, changed, target_after, without, after_submit, after_execute, after_edit, submitted, command_of}
 use Rattle.tree_target.specs.Held.{held_by, held_disk, TakesOne, HeldBy, HeldChange, IsShown}
@@ -205,7 +206,7 @@ reply_holds_none bytes (admin.Completes status result) = refl
 reply_holds_none bytes admin.Waits = refl
 
 admin_holds_none : (v : View) (b : PlacedBound) (e : Sqe) (c : Option ControllerRow)
-    (o : Option Own) → held_by (of_controller v b e c o) ≡ None
+    (o : Option Events) → held_by (of_controller v b e c o) ≡ None
 admin_holds_none v b e None o = refl
 admin_holds_none v b e (Some c) None = refl
 admin_holds_none v b e (Some c) (Some o) =
@@ -217,7 +218,7 @@ module _ (law : AdmittedIsOnSeen) where
   qid_shown t e port b zero disk is =
       absurd (no_number disk (sym (admin_holds_none (view_at t port b)
       (placed_bound t.tree port b) e (numbered t.controllers b.controller)
-      (own_numbered t.events b.controller)) ∙ is))
+      (events_numbered t.events b.controller)) ∙ is))
   qid_shown t e port b (suc q) disk is =
       let r = run_of (io_admission (view_at t port b) e) disk is in
       let a = law (view_at t port b) e r.job r.run in

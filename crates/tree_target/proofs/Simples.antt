@@ -39,4 +39,5 @@ simple_stands d = record {
   );
   held = refl;
   events = refl;
+  stamps = refl;
 }

@@ -33,6 +33,7 @@ start_stands t lines ports = record {
   bindings = bound_none t ports;
   held = refl;
   events = refl;
+  stamps = refl;
 }
 
 -- ---- loading

@@ -15,7 +15,10 @@ use Rattle.sqe_cqe.specs.Connect.{keep_alive_of}
 use Rattle.mem_bdev.specs.Texts.{Text}
 use Rattle.admin_commands.specs.declared.admit.AdminReply.{AdminReply}
 use Rattle.admin_commands.specs.declared.admit.AdminReply.TheVariants as admin
-use Rattle.admin_commands.specs.Admin.{Own, AdmitsAt, begun_with}
+use Rattle.async_events.specs.declared.events.Events.{Events}
+use Rattle.async_events.specs.Stamps.{begun}
+use Rattle.change_stamps.specs.Stamps.{Stamps}
+use Rattle.admin_commands.specs.Admin.{AdmitsAt, PollsAt}
 use Rattle.io_commands.specs.declared.jobs.Job.{Job}
 use Rattle.io_commands.specs.declared.jobs.Admit.{Admit}
 use Rattle.io_commands.specs.declared.jobs.Admit.TheVariants.{Refused, Run}
@@ -43,7 +46,9 @@ pub record Kept : Type 0 where
   pub bindings : List Binding
   pub held : List Command
   -- of the controllers, in the order of their numbers
-  pub events : List Own
+  pub events : List Events
+  -- the serials of last changes
+  pub stamps : Stamps
 
 -- ---- queues
 abbrev pub bound_from : Option Binding → Option Bound
@@ -76,7 +81,7 @@ pub record HasQueue (k : Kept) (queue : ℕ) : Type 0 where
 
 -- ---- admission by positions
 abbrev pub seen_by : Kept → Bound → View
-seen_by k b = view_of (tree_answers k.tree k.controllers k.blocks) b
+seen_by k b = view_of (tree_answers k.tree k.controllers k.blocks k.stamps) b
 
 abbrev pub by_bound : Kept → Sqe → Option Bound → Admit
 by_bound k e None = Refused INVALID_OPCODE
@@ -227,16 +232,33 @@ ctrl_for b None = None
 ctrl_for b (Some c) = Some (as_bound b c)
 
 -- what a command of an admin queue does: nothing where its controller isn't there
-abbrev pub ServesAdmin : View → Sqe → ℕ → Option Ctrl → List Own → AdminReply → Text → Text
-    → List Own → Type 0
+abbrev pub ServesAdmin : View → Sqe → ℕ → Option Ctrl → List Events → AdminReply → Text → Text
+    → List Events → Type 0
 ServesAdmin v e ctrl None old reply to to' new =
     (reply ≡ admin.Completes INVALID_OPCODE 0) × (to' ≡ to) × (new ≡ old)
 ServesAdmin v e ctrl (Some c) old reply to to' new = AdmitsAt v c e (ctrl - 1) old reply to to' new
 
--- a Connect that made a controller begins its state
-abbrev pub states_made : List Own → Sqe → Option Ctrl → List Own
-states_made old e None = old
-states_made old e (Some c) = old ++ begun_with (keep_alive_of e) ∷ []
+-- a poll of an admin queue: no event where its controller isn't there
+abbrev pub PollsAdmin : View → ℕ → Option Ctrl → List Events → Option (ℕ × ℕ) → List Events
+    → Type 0
+PollsAdmin v ctrl None old event new = (event ≡ None) × (new ≡ old)
+PollsAdmin v ctrl (Some c) old event new = PollsAt v (ctrl - 1) old event new
+
+-- the reply to a poll on the queue with this QID
+abbrev pub event_reply : ℕ → Option (ℕ × ℕ) → Reply
+event_reply qid None = replies.NoEvent
+event_reply qid (Some x) = replies.Answered (record {
+  result = x.1;
+  sq_head = 0;
+  sq_id = qid;
+  cid = x.0;
+  status = SUCCESS;
+})
+
+-- a Connect that made a controller, at this serial, begins its events
+abbrev pub states_made : ℕ → List Events → Sqe → Option Ctrl → List Events
+states_made since old e None = old
+states_made since old e (Some c) = old ++ begun since (keep_alive_of e) ∷ []
 
 -- how many bytes of data for the host a response has room for: as many as the entry names, at most
 -- a transfer

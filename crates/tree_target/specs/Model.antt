@@ -3,7 +3,8 @@ use Rattle.std.specs.Prelude.{ℕ, zero, suc, ◌==◌, ◌&&◌, Bool, List, Op
 use Rattle.mem_bdev.specs.Blocks.{Blocks}
 use Rattle.sqe_cqe.specs.declared.sqe.Sqe.{Sqe}
 use Rattle.sqe_cqe.specs.declared.controllers.ControllerRow.{ControllerRow}
-use Rattle.admin_commands.specs.Admin.{Own}
+use Rattle.async_events.specs.declared.events.Events.{Events}
+use Rattle.change_stamps.specs.Stamps.{Stamps}
 use Rattle.configfs_tree.specs.declared.configuration.Configuration.{Configuration}
 use Rattle.tree_target.specs.declared.calls.Reply.{Reply}
 use Rattle.tree_target.specs.declared.calls.Command.{Command}
@@ -55,8 +56,10 @@ pub record Target : Type 0 where
   pub bindings : List Binding
   -- in the order of their submits
   pub held : List Command
-  -- what the own commands of each controller keep, in the order of their numbers
-  pub events : List Own
+  -- of the controllers, in the order of their numbers
+  pub events : List Events
+  -- the serials of last changes
+  pub stamps : Stamps
   pub history : List Entry
 
 -- ---- callers

@@ -8,7 +8,7 @@ ghost use Rattle.tree_target.specs.Kept.{HasQueue, IsIdle, IsHolding, LeavesOthe
 ghost use Rattle.tree_target.specs.Model.{Submit, Execute, Poll, Control};
 ghost use Rattle.tree_target.specs.Stands.{Simulates, SubmitsAdmin};
 
-use crate::admin::{add_state, replied, serve};
+use crate::admin::{add_state, event_reply, poll_events, raise_if, replied, serve};
 use crate::calls::{Command, Reply};
 use crate::commands::{take_command, work};
 use crate::look::TreeLook;
@@ -42,7 +42,7 @@ impl Target {
         let Some(bound) = self.bound(queue) else {
             return Admit::Refused(INVALID_OPCODE);
         };
-        let mut look = TreeLook::new(&self.tree, &self.controllers, &self.disks);
+        let mut look = TreeLook::new(&self.tree, &self.controllers, &self.disks, &self.stamps);
         admit_io(&bound, e, &mut look)
     }
 
@@ -132,6 +132,7 @@ impl Target {
             &self.tree,
             &self.controllers,
             &self.disks,
+            &self.stamps,
             &mut self.states,
             &bound,
             e,
@@ -140,8 +141,8 @@ impl Target {
         replied(reply, bound.qid, e.cid)
     }
 
-    /// Polls the admin queue of a controller: it gets the completion of an event request, or no
-    /// event. No event comes yet. Takes no memory.
+    /// Polls an admin queue (`admin_commands::poll_admin`): it gets the completion of the event
+    /// request that was submitted last, or no event. Another queue gets none. Takes no memory.
     pub fn poll(&mut self, queue: u32) -> Reply
         ensures does { Simulates self.old (Poll queue) result [] self.new }
         ensures replies { is_poll_reply result ≡ true }
@@ -149,8 +150,24 @@ impl Target {
         ensures bindings { self.new.bindings ≡ self.old.bindings }
         ensures others { LeavesOthers queue self.old self.new }
     {
-        let _queue = queue;
-        Reply::NoEvent
+        self.tree.certify();
+        subsystem_positions(&self.tree);
+        port_positions(&self.tree);
+        if !self.is_admin(queue) {
+            return Reply::NoEvent;
+        }
+        let Some(bound) = self.bound(queue) else {
+            unreachable!();
+        };
+        let event = poll_events(
+            &self.tree,
+            &self.controllers,
+            &self.disks,
+            &self.stamps,
+            &mut self.states,
+            &bound,
+        );
+        event_reply(event, bound.qid)
     }
 
     /// A fabrics command (opcode 7Fh) on a queue: Connect, Property Get or Property Set, with as many
@@ -181,7 +198,8 @@ impl Target {
             payload,
         );
         self.bindings[at] = binding;
-        add_state(&mut self.states, &told.made, e);
+        raise_if(&mut self.stamps, told.published);
+        add_state(&mut self.states, self.stamps.serial(), &told.made, e);
         Reply::Answered(told.cqe)
     }
 }
