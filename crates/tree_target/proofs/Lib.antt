@@ -14,3 +14,7 @@ pub mod Changes
 pub mod Holding
 pub mod Lives
 pub mod Simples
+pub mod Singles
+pub mod SimpleSteps
+pub mod SimpleEdits
+pub mod PlanDisks

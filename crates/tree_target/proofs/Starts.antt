@@ -91,7 +91,7 @@ pub loaded_fresh : (lines : List DiskLine) (edits : List Edit) (t u : Configurat
 loaded_fresh lines edits t u e same =
     fresh_along t u (sym same) (fresh_from 1 (empty_tree lines) t edits e refl)
 
-zeros_at : (n at : ℕ) → slice_index (replicate n 0) at ≡ 0
+pub zeros_at : (n at : ℕ) → slice_index (replicate n 0) at ≡ 0
 zeros_at zero at = refl
 zeros_at (suc n) zero = refl
 zeros_at (suc n) (suc at) = zeros_at n at

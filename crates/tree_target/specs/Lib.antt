@@ -15,3 +15,5 @@ pub mod Stands
 pub mod Loads
 pub mod Lawful
 pub mod Simple
+pub mod SimpleEdits
+pub mod PlanDisks

@@ -15,7 +15,11 @@ mod editor;
 mod edits;
 mod law;
 mod look;
+mod plans;
 mod queues;
+mod simple;
+#[cfg(test)]
+mod simple_tests;
 mod start;
 mod target;
 #[cfg(test)]
@@ -30,5 +34,7 @@ pub use law::{
 };
 pub use look::TreeLook;
 pub use plan_files::MAX_QUEUES;
+pub use plans::plans_fit_targets;
+pub use simple::simple_is_edited;
 pub use start::LoadError;
 pub use target::Target;
