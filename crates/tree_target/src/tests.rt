@@ -509,12 +509,13 @@ fn submit_admin(
     alloc: Global,
     target: &mut Target,
     row: &Admin,
+    cid: u16,
 ) -> (Reply, Buffer) {
     let mut to = Buffer::with_room(alloc, 4096).expect(rt, "memory");
     let mut e = read_sqe(&[0; 64]);
     e.opcode = row.0;
     e.flags = row.1;
-    e.cid = 9;
+    e.cid = cid;
     e.nsid = row.2;
     e.cdw10 = row.3;
     e.cdw11 = row.4;
@@ -530,7 +531,7 @@ fn submit_admin(
 // Each must be answered as its row says.
 fn submit_all(rt: &impl Abort, alloc: Global, target: &mut Target, rows: &[Admin]) {
     for (i, row) in rows.iter().enumerate() {
-        let (reply, _) = submit_admin(rt, alloc, target, row);
+        let (reply, _) = submit_admin(rt, alloc, target, row, 9);
         status_is(rt, &reply, 9, 0, row.6);
         match reply {
             Reply::Answered(cqe) => assert_eq!(rt; cqe.result, row.7, "row {i}"),
@@ -571,24 +572,109 @@ fn admin_commands_are_served(rt: HostRuntime) -> Result<(), Fail> {
     set_cc(&rt, &mut target, 3, 0x0046_0001);
     submit_all(&rt, alloc, &mut target, &ADMIN);
     let list = Admin(0x06, 0x40, 0, 0x02, 0, 4096, 0, 0);
-    let (_, to) = submit_admin(&rt, alloc, &mut target, &list);
+    let (_, to) = submit_admin(&rt, alloc, &mut target, &list, 9);
     assert_eq!(rt; to.len(), 4096);
     assert_eq!(rt; &to.bytes()[..8], [1, 0, 0, 0, 0, 0, 0, 0].as_slice());
     Ok(())
 }
 
+// Four event requests with the command identifiers 10 to 13 wait, and a fifth is refused.
+fn request_events(rt: &impl Abort, alloc: Global, target: &mut Target) {
+    let request = Admin(0x0c, 0x40, 0, 0, 0, 0, 0x820a, 0);
+    for cid in 10..14 {
+        let (reply, _) = submit_admin(rt, alloc, target, &request, cid);
+        assert_eq!(rt; reply, Reply::Waiting);
+    }
+    submit_all(rt, alloc, target, &[request]);
+}
+
+// A poll of queue 3 completes the request with this identifier, with this result.
+fn poll_event(rt: &impl Abort, target: &mut Target, cid: u16, value: u64) {
+    let reply = target.poll(3);
+    status_is(rt, &reply, cid, 0, 0);
+    match reply {
+        Reply::Answered(cqe) => assert_eq!(rt; cqe.result, value),
+        _ => {}
+    }
+}
+
+// Reads a log on queue 3, of which the front must be these bytes.
+fn read_log(rt: &impl Abort, alloc: Global, target: &mut Target, row: &Admin, front: &[u8]) {
+    let (reply, to) = submit_admin(rt, alloc, target, row, 9);
+    status_is(rt, &reply, 9, 0, 0);
+    assert_eq!(rt; to.len(), row.5 as usize);
+    assert!(rt; front.len() <= to.bytes().len());
+    assert_eq!(rt; &to.bytes()[..front.len()], front);
+}
+
+// Disables namespace 1 and ends its drain; or enables it.
+fn turn(rt: &impl Abort, alloc: Global, target: &mut Target, on: bool) {
+    let value: &[u8] = if on { b"1" } else { b"0" };
+    let e = set_space(rt, alloc, Attr::Enable, value);
+    edit(rt, alloc, target, &e, Reply::Accepted);
+    if !on {
+        end_drain(rt, target);
+    }
+}
+
 #[test]
-fn four_event_requests_wait(rt: HostRuntime) -> Result<(), Fail> {
+fn notices_tell_of_changes(rt: HostRuntime) -> Result<(), Fail> {
     let alloc = rt.alloc();
     let mut target = configured(&rt, alloc);
     connect_all(&rt, &mut target, &JOINED);
     set_cc(&rt, &mut target, 3, 0x0046_0001);
-    let request = Admin(0x0c, 0x40, 0, 0, 0, 0, 0x820a, 0);
-    for _ in 0..4 {
-        let (reply, _) = submit_admin(&rt, alloc, &mut target, &request);
-        assert_eq!(rt; reply, Reply::Waiting);
-    }
-    submit_all(&rt, alloc, &mut target, &[request]);
+    request_events(&rt, alloc, &mut target);
     assert_eq!(rt; target.poll(3), Reply::NoEvent);
+    turn(&rt, alloc, &mut target, false);
+    assert_eq!(rt; target.poll(1), Reply::NoEvent);
+    poll_event(&rt, &mut target, 13, 0x0004_0002);
+    assert_eq!(rt; target.poll(3), Reply::NoEvent);
+    turn(&rt, alloc, &mut target, true);
+    assert_eq!(rt; target.poll(3), Reply::NoEvent);
+    let retained = Admin(0x02, 0x40, 0, 0x03ff_8004, 0, 4096, 0, 0);
+    let cleared = Admin(0x02, 0x40, 0, 0x03ff_0004, 0, 4096, 0, 0);
+    read_log(
+        &rt,
+        alloc,
+        &mut target,
+        &retained,
+        &[1, 0, 0, 0, 0, 0, 0, 0],
+    );
+    read_log(&rt, alloc, &mut target, &cleared, &[1, 0, 0, 0, 0, 0, 0, 0]);
+    read_log(&rt, alloc, &mut target, &retained, &[0; 8]);
+    assert_eq!(rt; target.poll(3), Reply::NoEvent);
+    turn(&rt, alloc, &mut target, false);
+    poll_event(&rt, &mut target, 12, 0x0004_0002);
+    let state = set(
+        &rt,
+        alloc,
+        Folder::AnaGroup(1, 1),
+        Attr::AnaState,
+        b"inaccessible",
+    );
+    edit(&rt, alloc, &mut target, &state, Reply::Accepted);
+    poll_event(&rt, &mut target, 11, 0x000c_0302);
+    Ok(())
+}
+
+// One group with one enabled namespace.
+const ANA_LOG: [u8; 52] = [
+    0, 0, 0, 0, 0, 0, 0, 0, 1, 0, 0, 0, 0, 0, 0, 0, 1, 0, 0, 0, 1, 0, 0, 0, 0, 0, 0, 0, 0, 0, 0, 0,
+    1, 0, 0, 0, 0, 0, 0, 0, 0, 0, 0, 0, 0, 0, 0, 0, 1, 0, 0, 0,
+];
+
+#[test]
+fn logs_are_read(rt: HostRuntime) -> Result<(), Fail> {
+    let alloc = rt.alloc();
+    let mut target = configured(&rt, alloc);
+    connect_all(&rt, &mut target, &JOINED);
+    set_cc(&rt, &mut target, 3, 0x0046_0001);
+    let log = Admin(0x02, 0x40, 0, 0x000c_000c, 0, 52, 0, 0);
+    read_log(&rt, alloc, &mut target, &log, &ANA_LOG);
+    let refused = [
+        Admin(0x02, 0x40, 0, 0x000c_0002, 0, 52, 0x8004, 0),
+        Admin(0x02, 0x40, 0, 0x000c_000c, 0, 51, 0x801e, 0),
+    ];
+    submit_all(&rt, alloc, &mut target, &refused);
     Ok(())
 }
