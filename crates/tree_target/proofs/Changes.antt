@@ -1,5 +1,5 @@
 -- What calls change of a target.
-use Rattle.std.proofs.Common.{◌≡◌, ◌≢◌, ◌==◌, ◌||◌, not, ℕ, zero, suc, Bool, true, false, List, [], ◌∷◌, Option, Some, None, slice_get, slice_set, refl, sym, ap, ◌∙◌}
+use Rattle.std.proofs.Common.{◌≡◌, ◌≢◌, ◌==◌, ◌||◌, not, ℕ, zero, suc, Bool, true, false, cond, List, [], ◌∷◌, Option, Some, None, slice_get, slice_set, refl, sym, ap, ◌∙◌}
 use mathlib.Core.Logic.{⊎_elim}
 use Rattle.std.proofs.lemmas.Bool.{both_ways}
 use Rattle.sqe_cqe.specs.declared.sqe.Sqe.{Sqe}
@@ -24,11 +24,12 @@ use Rattle.link_rules.specs.declared.edits.LinkEdit.{LinkEdit}
 use Rattle.link_rules.specs.declared.edits.LinkEdit.TheVariants as link
 use Rattle.link_rules.specs.Table.{allow_host, disallow_host, link_subsystem, unlink_subsystem, link_outcome}
 use Rattle.link_rules.proofs.Tells.{allowed_stays, linked_stays}
+use Rattle.change_stamps.specs.Stamps.{Stamps, stamped, stamps_after}
 use Rattle.tree_target.specs.declared.calls.Command.{Command}
 use Rattle.tree_target.specs.Edits.{Edit, outcome}
 use Rattle.tree_target.specs.Model.{Call, Submit, Execute, Poll, Control, AnEdit, DrainEnd, Binding, Target, caller_of, binding_in, binding_at, held_at}
 use Rattle.tree_target.specs.Admission.{Admission, Completes, Waits, Holds as HoldsJob, admission}
-use Rattle.tree_target.specs.Controls.{placed, answer_on, bound_after, put_binding, subsystem_in, after_answer, after_control, publishes}
+use Rattle.tree_target.specs.Controls.{placed, answer_on, bound_after, raised_if, put_binding, subsystem_in, after_answer, after_control, publishes}
 use Rattle.tree_target.specs.Steps.{reply_of, changed, target_after, after_submit, after_execute, after_edit, edited}
 use Rattle.tree_target.specs.Legal.{after}
 use Rattle.tree_target.specs.Fixed.{Fixed, fixed, Desk, desk, is_published, is_published_edit, is_editors, AreQueues, LeavesAttached}
@@ -63,7 +64,11 @@ queues_leave t (DrainEnd line sub nsid) own = absurd (both_ways true own refl)
 
 -- ---- fixed
 abbrev fixed_by : Desk → Fixed
-fixed_by d = record { settings = d.tree.settings; controllers = d.controllers }
+fixed_by d = record {
+  settings = d.tree.settings;
+  controllers = d.controllers;
+  stamps = d.stamps;
+}
 
 of_desk : (t u : Target) → desk u ≡ desk t → fixed u ≡ fixed t
 of_desk t u e = ap fixed_by e
@@ -73,17 +78,33 @@ unpublished_same : (old new : Configuration) (c : Change) → Tells old new c �
 unpublished_same old new c tells off =
     ⊎_elim (λ p. absurd (both_ways c.published off p.0)) (λ p. p.0) tells.published
 
-abbrev with_controllers : Target → List ControllerRow → Fixed
-with_controllers t cs = record { settings = t.tree.settings; controllers = cs }
+abbrev with_controllers : Target → List ControllerRow → Stamps → Fixed
+with_controllers t cs s = record {
+  settings = t.tree.settings;
+  controllers = cs;
+  stamps = s;
+}
 
-abbrev fixed_with : Target → Configuration → Fixed
-fixed_with t u = record { settings = u.settings; controllers = t.controllers }
+unstamped : (c : Change) (s : Stamps) → c.published ≡ false → stamps_after c s ≡ s
+unstamped c s off = ap (λ (b : Bool). cond b (stamped c s) s) off
+
+unraised : (b : Bool) (s : Stamps) → b ≡ false → raised_if b s ≡ s
+unraised b s off = ap (λ (x : Bool). raised_if x s) off
+
+abbrev fixed_with : Target → Configuration → Stamps → Fixed
+fixed_with t u s = record {
+  settings = u.settings;
+  controllers = t.controllers;
+  stamps = s;
+}
 
 edit_fixed : (t : Target) (o : Outcome) → Holds (λ u c. Tells t.tree u c) o
     → is_published_edit o ≡ false → fixed (after_edit t o) ≡ fixed t
 edit_fixed t (Refuses errno) tells off = refl
 edit_fixed t (Accepts u c) tells off =
-    ap (fixed_with t) (unpublished_same t.tree u c (accepted u c tells) off)
+    ap (λ (x : Configuration). fixed_with t x (stamps_after c t.stamps))
+    (unpublished_same t.tree u c (accepted u c tells) off)
+    ∙ ap (fixed_with t t.tree) (unstamped c t.stamps off)
 
 -- an edit of a link that is accepted is published
 abbrev Published : Outcome → Type 0
@@ -152,26 +173,29 @@ set_same : (cs : List ControllerRow) (b : Option CodeBound) (v : ℕ) → sets_d
 set_same cs None v off = refl
 set_same cs (Some b) v off = set_number_same cs b.ctrl v off
 
-answer_fixed : (t : Target) (queue : ℕ) (name : List ℕ) (b : Binding) (a : Answer)
+answer_fixed : (t : Target) (queue : ℕ) (e : Sqe) (name : List ℕ) (b : Binding) (a : Answer)
     → publishes_answer t.controllers (placed t.tree b) a ≡ false
-    → fixed (after_answer t queue name b a) ≡ fixed t
+    → fixed (after_answer t queue e name b a) ≡ fixed t
 unfolding tree_after controllers_after publishes_answer
-answer_fixed t queue name b (Refused fault) off = refl
-answer_fixed t queue name b (Makes bound host) off = absurd (both_ways true off refl)
-answer_fixed t queue name b (Joins bound) off = absurd (both_ways true off refl)
-answer_fixed t queue name b (Reads value) off = refl
-answer_fixed t queue name b (Sets value) off =
-    ap (λ (cs : List ControllerRow). with_controllers t cs)
+answer_fixed t queue e name b (Refused fault) off = refl
+answer_fixed t queue e name b (Makes bound host) off = absurd (both_ways true off refl)
+answer_fixed t queue e name b (Joins bound) off = absurd (both_ways true off refl)
+answer_fixed t queue e name b (Reads value) off = refl
+answer_fixed t queue e name b (Sets value) off =
+    ap (λ (cs : List ControllerRow). with_controllers t cs (raised_if
+    (sets_differ t.controllers (placed t.tree b).bound value) t.stamps))
     (set_same t.controllers (placed t.tree b).bound value off)
+    ∙ ap (with_controllers t t.controllers)
+    (unraised (sets_differ t.controllers (placed t.tree b).bound value) t.stamps off)
 
 control_fixed : (t : Target) (queue : ℕ) (e : Sqe) (payload : List ℕ) (b : Option Binding)
     → publishes t e payload b ≡ false → fixed (after_control t queue e payload b) ≡ fixed t
 control_fixed t queue e payload None off = refl
 control_fixed t queue e payload (Some b) off =
-    answer_fixed t queue (subsystem_in payload) b (answer_on t e payload b) off
+    answer_fixed t queue e (subsystem_in payload) b (answer_on t e payload b) off
 
 abbrev settled : Target → Settings → Fixed
-settled t s = record { settings = s; controllers = t.controllers }
+settled t s = record { settings = s; controllers = t.controllers; stamps = t.stamps }
 
 pub unpublished_leave : (t : Target) (call : Call) → IsStanding t.tree
     → is_published t call ≡ false → fixed (target_after t call) ≡ fixed t
@@ -204,7 +228,7 @@ queues_leave_all t (c ∷ calls) h =
 -- the desk after an edit is a function of the desk before it
 abbrev desk_of : Desk → Outcome → Desk
 desk_of d (Refuses errno) = d
-desk_of d (Accepts u c) = record d { tree = u }
+desk_of d (Accepts u c) = record d { tree = u; stamps = stamps_after c d.stamps }
 
 abbrev edited_desk : Edit → Desk → Desk
 edited_desk e d = desk_of d (outcome d.tree e)

@@ -1,9 +1,14 @@
 -- A fabrics command of the program's target does what the model does.
-use Rattle.std.proofs.Common.{◌≡◌, ℕ, zero, suc, ◌<◌, true, List, [], ◌∷◌, length, Option, Some, None, slice_get, slice_set, refl, sym, ap, subst, ◌∙◌, arith}
+use Rattle.std.proofs.Common.{◌≡◌, ℕ, zero, suc, ◌<◌, true, List, [], ◌∷◌, ◌++◌, length, Option, Some, None, slice_get, slice_set, refl, sym, ap, subst, ◌∙◌, arith}
 use Rattle.std.specs.FinMap as map
 use Rattle.std.specs.List.{AllByRecursion}
 use Rattle.std.specs.Option.{unwrap_or}
-use Rattle.std.proofs.lemmas.List.{length-set}
+use Rattle.std.specs.Prelude.{IfSome}
+use Rattle.std.proofs.lemmas.List.{length-set, length-append}
+use Rattle.sqe_cqe.specs.Connect.{keep_alive_of}
+use Rattle.async_events.specs.declared.events.Events.{Events}
+use Rattle.async_events.specs.Stamps.{begun}
+use Rattle.change_stamps.specs.Stamps.{Stamps, next_serial}
 use Rattle.sqe_cqe.specs.declared.sqe.Sqe.{Sqe}
 use Rattle.sqe_cqe.specs.declared.controllers.Bound.{Bound as CodeBound}
 use Rattle.sqe_cqe.specs.declared.controllers.Binding.{Binding as CodeBinding}
@@ -17,32 +22,22 @@ use Rattle.configfs_tree.specs.declared.configuration.Configuration.{Configurati
 use Rattle.fabrics_connect.specs.declared.answer.Answer.{Answer}
 use Rattle.fabrics_connect.specs.declared.answer.Answer.TheVariants.{Refused, Makes, Joins, Reads, Sets}
 use Rattle.fabrics_connect.specs.Checks.{control_answer}
-use Rattle.fabrics_connect.specs.After.{AttachedAreThere, FitsAnswer, HasRoom, completion_of, controllers_after, tree_after, binding_after}
+use Rattle.fabrics_connect.specs.After.{AttachedAreThere, FitsAnswer, HasRoom, completion_of, controllers_after, tree_after, binding_after, made_by, is_published, new_controller, with_qid}
+use Rattle.fabrics_connect.specs.Registers.{after_set}
 use Rattle.plan_files.specs.declared.plan.TheConstants.{MAX_QUEUES}
 use Rattle.tree_target.specs.declared.calls.Reply.TheVariants as replies
 use Rattle.tree_target.specs.Model.{Control, Bound, Binding, Target}
-use Rattle.tree_target.specs.Controls.{placed_bound, placed_in, placed, answer_on, controlled, named, bound_after, put_binding, subsystem_in, after_answer, after_control}
+use Rattle.tree_target.specs.Controls.{placed_bound, placed_in, placed, answer_on, controlled, named, bound_after, events_made, raised_if, put_binding, subsystem_in, after_answer, after_control}
 use Rattle.tree_target.specs.Joined.{AreJoined}
 use Rattle.tree_target.specs.Steps.{reply_of, bytes_of, changed}
-use Rattle.tree_target.specs.Kept.{Kept, IsKept, IsNumbered, LeavesOthers, binding_in}
+use Rattle.tree_target.specs.Kept.{Kept, IsKept, states_made, IsNumbered, LeavesOthers, binding_in}
 use Rattle.tree_target.specs.Stands.{IsBound, IsBoundAs, AreBound, StandsFor, Does, Simulates}
-use Rattle.tree_target.proofs.Joining.{Grows, answer_grows, get_put_other, joined_after, new_attached, one_unconnected}
+use Rattle.tree_target.proofs.Joining.{Grows, answer_grows, changed_len, bound_len, get_put_other, joined_after, new_attached, one_unconnected}
 use Rattle.tree_target.proofs.Accepting.{Accepted, accepted, makes_first, has_positions, joins_attached}
-use Rattle.tree_target.proofs.Admitting.{Both, both_at}
+use Rattle.tree_target.proofs.Admitting.{Both, both_at, bound_placed}
 use Rattle.tree_target.proofs.Simulating.{stands_after}
 
--- ---- the positions of the model's names are those that the program keeps
-bound_placed : (t : Configuration) (port : ℕ) (c : CodeBound) (m : Bound) → IsBound t port c m
-    → placed_bound t port m ≡ c
-bound_placed t port c m b = λ i. record {
-  ctrl = b.ctrl i;
-  qid = b.qid i;
-  sub = (ap (λ (o : Option SubsystemRow). unwrap_or (subsystem_place o) 0) b.sub.found
-      ∙ b.sub.at_is) i;
-  port = (ap (λ (o : Option PortRow). unwrap_or (port_place o) 0) b.at_port.found
-      ∙ b.at_port.at_is) i;
-}
-
+-- ---- the positions of the model's names
 placed_same : (t : Configuration) (port : ℕ) (c : Option CodeBound) (m : Option Bound)
     → IsBoundAs t port c m → placed_in t port m ≡ c
 placed_same t port None None b = refl
@@ -152,13 +147,61 @@ completion_along : (b c : CodeBinding) (e : Sqe) (x y : Answer) → b ≡ c → 
     → completion_of b e x ≡ completion_of c e y
 completion_along b c e x y e1 e2 = rw (e1, e2) refl
 
+events_along : (x y : Stamps) (o p : List Events) (e : Sqe) (a b : Answer) → x ≡ y → o ≡ p
+    → a ≡ b → events_made x o e a ≡ events_made y p e b
+events_along x y o p e a b e1 e2 e3 = rw (e1, e2, e3) refl
+
+stamps_along : (cs ds : List ControllerRow) (b c : CodeBinding) (x y : Answer) (s r : Stamps)
+    → cs ≡ ds → b ≡ c → x ≡ y → s ≡ r
+    → raised_if (is_published cs b x) s ≡ raised_if (is_published ds c y) r
+stamps_along cs ds b c x y s r e1 e2 e3 e4 = rw (e1, e2, e3, e4) refl
+
 -- ---- the call
-abbrev pub after_command : Kept → ℕ → CodeBinding → Answer → Kept
-after_command k at c a = record k {
+abbrev pub after_command : Kept → ℕ → Sqe → CodeBinding → Answer → Kept
+after_command k at e c a = record k {
   tree = tree_after k.tree a;
   controllers = controllers_after k.tree k.controllers c a;
   bindings = slice_set k.bindings at (binding_after c a);
+  events = events_made k.stamps k.events e a;
+  stamps = raised_if (is_published k.controllers c a) k.stamps;
 }
+
+-- a state for each controller
+same_count : (t : Configuration) (cs : List ControllerRow) (s : Stamps) (os : List Events)
+    (e : Sqe) (b : CodeBinding) (a : Answer) → length os ≡ length cs
+    → length (events_made s os e a) ≡ length (controllers_after t cs b a)
+unfolding controllers_after
+same_count t cs s os e b (Refused fault) h = h
+same_count t cs s os e b (Makes bound host) h =
+    let x = length-append os (begun (next_serial s) (keep_alive_of e) ∷ []) in
+    let y = length-append cs (new_controller t bound host ∷ []) in
+    omega (arith, x, y, h)
+same_count t cs s os e b (Joins bound) h =
+    h ∙ sym (changed_len cs bound.ctrl (with_qid bound.qid))
+same_count t cs s os e b (Reads value) h = h
+same_count t cs s os e b (Sets value) h = h ∙ sym (bound_len cs b.bound (after_set value))
+
+-- the state that the program adds is the model's, and there is room for it
+pub made_same : (t : Configuration) (cs : List ControllerRow) (b : CodeBinding) (s : Stamps)
+    (os : List Events) (e : Sqe) (a : Answer)
+    → states_made (raised_if (is_published cs b a) s).serial os e (made_by t a)
+    ≡ events_made s os e a
+unfolding made_by is_published
+made_same t cs b s os e (Refused fault) = refl
+made_same t cs b s os e (Makes bound host) = refl
+made_same t cs b s os e (Joins bound) = refl
+made_same t cs b s os e (Reads value) = refl
+made_same t cs b s os e (Sets value) = refl
+
+pub made_room : (t : Configuration) (cs : List ControllerRow) (os : List Events) (a : Answer)
+    → FitsAnswer t cs a → length os ≡ length cs
+    → IfSome (made_by t a) (λ _. length os < 31)
+unfolding made_by
+made_room t cs os (Refused fault) fits h = tt
+made_room t cs os (Makes bound host) fits h = let room = fits.room in omega (arith, room, h)
+made_room t cs os (Joins bound) fits h = tt
+made_room t cs os (Reads value) fits h = tt
+made_room t cs os (Sets value) fits h = tt
 
 module _ (k : Kept) (at number : ℕ) (e : Sqe) (payload : List ℕ) (c : CodeBinding)
     (st : IsStanding k.tree) (j : AreJoined k.tree k.controllers k.bindings)
@@ -170,7 +213,7 @@ module _ (k : Kept) (at number : ℕ) (e : Sqe) (payload : List ℕ) (c : CodeBi
   does_on : (t : Target) (o : Option Binding) → slice_get t.bindings at ≡ o → StandsFor k t
       → Both k.tree (Some c) o
       → Does t (Control (suc at) number e payload) (replies.Answered (completion_of c e a)) []
-      (after_command k at c a)
+      (after_command k at e c a)
   unfolding reply_of bytes_of changed
   does_on t None is s b = absurd b
   does_on t (Some m) is s b =
@@ -186,8 +229,8 @@ module _ (k : Kept) (at number : ℕ) (e : Sqe) (payload : List ℕ) (c : CodeBi
             ∙ ap (λ x. replies.Answered x)
             (completion_along (placed t.tree m) c e (answer_on t e payload m) a same answer);
         bytes_are = refl;
-        stands = stands_after (after_command k at c a) t
-            (after_answer t (suc at) name m (answer_on t e payload m))
+        stands = stands_after (after_command k at e c a) t
+            (after_answer t (suc at) e name m (answer_on t e payload m))
             (Control (suc at) number e payload)
             (ap (after_control t (suc at) e payload) is)
             (record {
@@ -206,26 +249,31 @@ module _ (k : Kept) (at number : ℕ) (e : Sqe) (payload : List ℕ) (c : CodeBi
                   (own_bound k.tree k.controllers k.bindings c e payload st j m b.0 a refl fits
                   b.1));
               held = s.held;
+              events = events_along t.stamps k.stamps t.events k.events e
+                  (answer_on t e payload m) a s.stamps s.events answer;
+              stamps = stamps_along t.controllers k.controllers (placed t.tree m) c
+                  (answer_on t e payload m) a t.stamps k.stamps s.controllers same answer
+                  s.stamps;
             });
       }
 
   does_at : slice_get k.bindings at ≡ Some c
       → Simulates k (Control (suc at) number e payload) (replies.Answered (completion_of c e a)) []
-      (after_command k at c a)
+      (after_command k at e c a)
   does_at is t s = does_on t (slice_get t.bindings at) refl s
       (subst (λ (o : Option CodeBinding). Both k.tree o (slice_get t.bindings at)) is
       (both_at k.tree k.bindings t.bindings at s.bindings))
 
   pub control_does : (queue : ℕ) → queue ≡ suc at → slice_get k.bindings at ≡ Some c
       → Simulates k (Control queue number e payload) (replies.Answered (completion_of c e a)) []
-      (after_command k at c a)
+      (after_command k at e c a)
   control_does queue q is = subst (λ (n : ℕ). Simulates k (Control n number e payload)
-      (replies.Answered (completion_of c e a)) [] (after_command k at c a)) (sym q) (does_at is)
+      (replies.Answered (completion_of c e a)) [] (after_command k at e c a)) (sym q) (does_at is)
 
   -- ---- the invariant
   pub control_kept : (room : ℕ) → slice_get k.bindings at ≡ Some c
       → AttachedAreThere (tree_after k.tree a) (controllers_after k.tree k.controllers c a)
-      → IsKept k room → IsKept (after_command k at c a) room
+      → IsKept k room → IsKept (after_command k at e c a) room
   control_kept room is counted h =
       let len : length (slice_set k.bindings at (binding_after c a)) ≡ length k.bindings =
       length-set k.bindings at (binding_after c a) in
@@ -240,6 +288,7 @@ module _ (k : Kept) (at number : ℕ) (e : Sqe) (payload : List ℕ) (c : CodeBi
         few_disks = h.few_disks;
         few_queues = omega (arith, len, few);
         room = h.room;
+        states = same_count k.tree k.controllers k.stamps k.events e c a h.states;
         joined = joined_after k.tree k.controllers k.bindings at c a is h.joined
             (has_positions k.tree k.controllers c e payload a st j.subsystems j.ports refl)
             (makes_first k.tree k.controllers c e payload a refl) counted;
@@ -261,11 +310,11 @@ in_put : (bs : List CodeBinding) (at q : ℕ) (c : CodeBinding) → (q ≡ suc a
 in_put bs at zero c ne = refl
 in_put bs at (suc q) c ne = get_put_other bs at q c (λ e. ne (ap (λ (n : ℕ). suc n) e))
 
-pub control_leaves : (k : Kept) (queue at : ℕ) (c : CodeBinding) (a : Answer) → queue ≡ suc at
-    → LeavesOthers queue k (after_command k at c a)
-control_leaves k queue at c a e = record {
+pub control_leaves : (k : Kept) (queue at : ℕ) (e : Sqe) (c : CodeBinding) (a : Answer) → queue ≡ suc at
+    → LeavesOthers queue k (after_command k at e c a)
+control_leaves k queue at e c a is_next = record {
   queues = length-set k.bindings at (binding_after c a);
-  bindings = λ q ne. in_put k.bindings at q (binding_after c a) (λ is. ne (is ∙ sym e));
+  bindings = λ q ne. in_put k.bindings at q (binding_after c a) (λ is. ne (is ∙ sym is_next));
   idle = λ q ne h. h;
   holding = λ q number taken given ne h. record {
     is_held = h.is_held;

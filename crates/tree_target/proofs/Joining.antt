@@ -218,12 +218,12 @@ changed_at_len : (cs : List ControllerRow) (n : ℕ) (f : ControllerRow → Cont
 changed_at_len cs n f None = refl
 changed_at_len cs n f (Some c) = length-set cs n (f c)
 
-changed_len : (cs : List ControllerRow) (n : ℕ) (f : ControllerRow → ControllerRow)
+pub changed_len : (cs : List ControllerRow) (n : ℕ) (f : ControllerRow → ControllerRow)
     → length (changed cs n f) ≡ length cs
 changed_len cs zero f = refl
 changed_len cs (suc n) f = changed_at_len cs n f (slice_get cs n)
 
-bound_len : (cs : List ControllerRow) (b : Option Bound) (f : ControllerRow → ControllerRow)
+pub bound_len : (cs : List ControllerRow) (b : Option Bound) (f : ControllerRow → ControllerRow)
     → length (changed_bound cs b f) ≡ length cs
 bound_len cs None f = refl
 bound_len cs (Some b) f = changed_len cs b.ctrl f

@@ -8,6 +8,7 @@ pub mod Simulating
 pub mod Admitting
 pub mod Accepting
 pub mod Controlling
+pub mod Administering
 pub mod Executing
 pub mod Changes
 pub mod Holding

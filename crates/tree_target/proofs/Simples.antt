@@ -43,6 +43,8 @@ simple_stands d = record {
     tt,
   );
   held = refl;
+  events = refl;
+  stamps = refl;
 }
 
 -- ---- its one controller is counted at the first positions, and is of its one queue
@@ -63,10 +65,12 @@ joined d = record {
 }
 
 pub simple_kept : (d : DiskLine) (room : ℕ) → MAX_QUEUES ≤ room → IsKept (kept_simple d) room
+unfolding simple_rows
 simple_kept d room enough = record {
   holds = record { fit = tt; numbered = tt; single = tt };
   few_disks = lit≤ tt;
   few_queues = lit≤ tt;
   room = enough;
   joined = joined d;
+  states = refl;
 }

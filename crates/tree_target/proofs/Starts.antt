@@ -32,6 +32,8 @@ start_stands t lines ports = record {
   blocks = refl;
   bindings = bound_none t ports;
   held = refl;
+  events = refl;
+  stamps = refl;
 }
 
 -- ---- loading

@@ -1,10 +1,10 @@
 -- What a fabrics command does to the target. Its checks, and what they come to, are those of Connect
 -- and of properties, which go by positions: so names are placed for them, and what an accepted
 -- Connect binds is named again.
-use Rattle.std.specs.Prelude.{ℕ, zero, suc, Bool, false, List, [], ◌∷◌, ◌++◌, Option, Some, None, slice_set}
+use Rattle.std.specs.Prelude.{ℕ, zero, suc, Bool, false, if◌then◌else◌, List, [], ◌∷◌, ◌++◌, Option, Some, None, slice_set}
 use Rattle.std.specs.Option.{unwrap_or}
 use Rattle.std.specs.FinMap as map
-use Rattle.sqe_cqe.specs.Connect.{connect_of}
+use Rattle.sqe_cqe.specs.Connect.{connect_of, keep_alive_of}
 use Rattle.sqe_cqe.specs.declared.sqe.Sqe.{Sqe}
 use Rattle.sqe_cqe.specs.declared.codes.TheConstants.{INVALID_OPCODE}
 use Rattle.sqe_cqe.specs.declared.controllers.Bound.{Bound as PlacedBound}
@@ -18,7 +18,10 @@ use Rattle.fabrics_connect.specs.Checks.{control_answer}
 use Rattle.fabrics_connect.specs.After.{completion_of, controllers_after, tree_after, is_published}
 use Rattle.tree_target.specs.declared.calls.Reply.{Reply}
 use Rattle.tree_target.specs.declared.calls.Reply.TheVariants as replies
-use Rattle.tree_target.specs.Model.{Bound, Binding, EventRequests, Target}
+use Rattle.async_events.specs.declared.events.Events.{Events}
+use Rattle.async_events.specs.Stamps.{begun}
+use Rattle.change_stamps.specs.Stamps.{Stamps, next_serial, raised}
+use Rattle.tree_target.specs.Model.{Bound, Binding, Target}
 
 -- ---- the positions of names
 abbrev pub subsystem_placed : Configuration → List ℕ → ℕ
@@ -74,30 +77,37 @@ abbrev pub put_binding : List Binding → ℕ → Binding → List Binding
 put_binding bindings zero b = bindings
 put_binding bindings (suc q) b = slice_set bindings q b
 
--- no event request of a new controller waits
-abbrev pub events_after : List EventRequests → Answer → List EventRequests
-events_after events (Refused fault) = events
-events_after events (Makes bound host) = events ++ (record { waiting = [] }) ∷ []
-events_after events (Joins bound) = events
-events_after events (Reads value) = events
-events_after events (Sets value) = events
+-- a new controller keeps the serial and the keep alive time of its Connect; its notices are on, and
+-- no event request waits
+abbrev pub events_made : Stamps → List Events → Sqe → Answer → List Events
+events_made s events e (Refused fault) = events
+events_made s events e (Makes bound host) =
+    events ++ begun (next_serial s) (keep_alive_of e) ∷ []
+events_made s events e (Joins bound) = events
+events_made s events e (Reads value) = events
+events_made s events e (Sets value) = events
+
+-- a change of the controllers raises the serial
+abbrev pub raised_if : Bool → Stamps → Stamps
+raised_if published s = if published then raised s else s
 
 -- the name of the subsystem in the data of a Connect; no bytes where the field names nothing
 abbrev pub subsystem_in : List ℕ → List ℕ
 subsystem_in payload = name_or_none (connect_of payload).subnqn
 
-abbrev pub after_answer : Target → ℕ → List ℕ → Binding → Answer → Target
-after_answer t queue name b a = record t {
+abbrev pub after_answer : Target → ℕ → Sqe → List ℕ → Binding → Answer → Target
+after_answer t queue e name b a = record t {
   tree = tree_after t.tree a;
   controllers = controllers_after t.tree t.controllers (placed t.tree b) a;
   bindings = put_binding t.bindings queue (bound_after b name a);
-  events = events_after t.events a;
+  events = events_made t.stamps t.events e a;
+  stamps = raised_if (is_published t.controllers (placed t.tree b) a) t.stamps;
 }
 
 abbrev pub after_control : Target → ℕ → Sqe → List ℕ → Option Binding → Target
 after_control t queue e payload None = t
 after_control t queue e payload (Some b) =
-    after_answer t queue (subsystem_in payload) b (answer_on t e payload b)
+    after_answer t queue e (subsystem_in payload) b (answer_on t e payload b)
 
 -- a Connect is published, and a Property Set that changes CC or CSTS
 abbrev pub publishes : Target → Sqe → List ℕ → Option Binding → Bool

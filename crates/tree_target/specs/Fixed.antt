@@ -1,6 +1,7 @@
 -- What changes of the configuration, by which calls, and what an edit's outcome depends on.
 use Rattle.std.specs.Prelude.{◌≡◌, ℕ, Bool, true, false, List, [], ◌∷◌}
 use Rattle.sqe_cqe.specs.declared.controllers.ControllerRow.{ControllerRow}
+use Rattle.change_stamps.specs.Stamps.{Stamps}
 use Rattle.configfs_tree.specs.declared.configuration.Settings.{Settings}
 use Rattle.configfs_tree.specs.declared.configuration.Configuration.{Configuration}
 use Rattle.configfs_tree.specs.Outcome.{Outcome, Refuses, Accepts}
@@ -16,17 +17,24 @@ use Rattle.tree_target.specs.Legal.{after}
 pub record Fixed : Type 0 where
   pub settings : Settings
   pub controllers : List ControllerRow
+  pub stamps : Stamps
 
 abbrev pub fixed : Target → Fixed
-fixed t = record { settings = t.tree.settings; controllers = t.controllers }
+fixed t = record {
+  settings = t.tree.settings;
+  controllers = t.controllers;
+  stamps = t.stamps;
+}
 
--- what the editor alone changes: the configuration with the holders of disks, and the controllers
+-- what the editor alone changes: the configuration with the holders of disks, the controllers, and
+-- the serials of last changes
 pub record Desk : Type 0 where
   pub tree : Configuration
   pub controllers : List ControllerRow
+  pub stamps : Stamps
 
 abbrev pub desk : Target → Desk
-desk t = record { tree = t.tree; controllers = t.controllers }
+desk t = record { tree = t.tree; controllers = t.controllers; stamps = t.stamps }
 
 abbrev pub is_published_edit : Outcome → Bool
 is_published_edit (Refuses errno) = false

@@ -2,8 +2,8 @@ pub mod Edits
 pub mod Model
 pub mod Start
 pub mod Views
-pub mod Admission
 pub mod Controls
+pub mod Admission
 pub mod Steps
 pub mod Legal
 pub mod Fixed

@@ -5,6 +5,7 @@ use Rattle.tree_target.specs.declared.start.LoadError.TheVariants as errors
 use Rattle.mem_bdev.specs.Blocks.{Blocks, blank}
 use Rattle.mem_bdev.specs.declared.disk.DiskLine.{DiskLine}
 use Rattle.sqe_cqe.specs.declared.controllers.Binding.{Binding as CodeBinding}
+use Rattle.change_stamps.specs.Stamps.{no_stamps}
 use Rattle.configfs_tree.specs.declared.configuration.Configuration.{Configuration}
 use Rattle.configfs_tree.specs.declared.edits.Errno.{Errno}
 use Rattle.configfs_tree.specs.Outcome.{Outcome, Refuses, Accepts}
@@ -34,6 +35,7 @@ start_of t lines ports = record {
   bindings = map unconnected ports;
   held = [];
   events = [];
+  stamps = no_stamps;
   history = [];
 }
 
@@ -69,6 +71,8 @@ kept_start t lines ports = record {
   blocks = map blank_of lines;
   bindings = map code_unconnected ports;
   held = [];
+  events = [];
+  stamps = no_stamps;
 }
 
 -- what loading a tree answers

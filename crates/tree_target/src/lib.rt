@@ -8,6 +8,7 @@
 //! that it stood for before. After Linux nvmet (core.c, configfs.c, io-cmd-bdev.c).
 #![tactic(auto)]
 
+mod admin;
 mod calls;
 mod commands;
 mod editor;

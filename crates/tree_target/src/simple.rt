@@ -9,6 +9,8 @@ ghost use Rattle.tree_target.specs.Start.{simple_nqn, simple_start, simple_tree}
 
 use crate::start::{LoadError, apply_edits};
 use crate::target::Target;
+use admin_commands::EventStates;
+use change_stamps::ChangeStamps;
 use configfs_tree::{Attr, Folder, FolderEdit, Nqn, Tree};
 use link_rules::{Edit, LinkEdit};
 use mem_bdev::{Disk, DiskLine, Name};
@@ -119,12 +121,17 @@ impl Target {
             bound: Some(bound),
         })?;
         let held = Vec::with_capacity(alloc, MAX_QUEUES)?;
+        let mut states = EventStates::new(alloc)?;
+        states.add(0, 0);
+        let stamps = ChangeStamps::new(alloc)?;
         Ok(Target {
             tree,
             controllers,
             disks,
             bindings,
             held,
+            states,
+            stamps,
         })
     }
 }

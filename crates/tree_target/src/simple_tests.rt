@@ -60,6 +60,7 @@ fn submitted(rt: &impl Abort, target: &mut Target, row: &Row) -> Reply {
     assert!(rt; target.queues() == 1);
     assert!(rt; target.is_idle(1));
     assert!(rt; !target.is_admin(1));
+    assert!(rt; !target.is_admin(1));
     target.submit(1, 0, &entry(row))
 }
 

@@ -169,10 +169,10 @@ fn a_queue_that_is_not_connected_is_refused(rt: HostRuntime) -> Result<(), Fail>
     assert_eq!(rt; target.queues(), 1);
     assert_eq!(rt; target.binding(1).port, 1);
     assert!(rt; target.is_idle(1));
+    assert!(rt; !target.is_admin(1));
     let reply = target.submit(1, 0, &entry(0x01, 7));
     status_is(&rt, &reply, 7, 0, 0x8002);
     control(&rt, &mut target, 1, &fabrics(0x04, 0), &[], (0x8002, 0, 0));
-    assert!(rt; !target.is_admin(1));
     assert_eq!(rt; target.poll(1), Reply::NoEvent);
     assert!(rt;
         !target.lawful(
@@ -238,6 +238,7 @@ fn connect(rt: &impl Abort, target: &mut Target, c: &Ask) {
     let mut e = fabrics(0x01, 1024);
     e.cdw10 = u32::from(c.qid) * 0x1_0000;
     e.cdw11 = u32::from(c.size);
+    e.cdw12 = 120_000;
     let mut data = [0; 1024];
     put(rt, &mut data, 16, &c.cntlid.to_le_bytes());
     put(rt, &mut data, 256, c.sub);
@@ -332,6 +333,7 @@ fn configured(rt: &impl Abort, alloc: Global) -> Target {
 fn hold(rt: &impl Abort, target: &mut Target, queue: u32, number: u32, e: &Sqe) {
     assert!(rt; queue >= 1 && queue as usize <= target.queues());
     assert!(rt; target.is_idle(queue));
+    assert!(rt; !target.is_admin(queue));
     assert_eq!(rt; target.submit(queue, number, e), Reply::Held);
 }
 
@@ -370,6 +372,7 @@ fn a_drain_ends_after_the_last_held_command(rt: HostRuntime) -> Result<(), Fail>
     finish(&rt, alloc, &mut target, 1, 3, 1, &[]);
     assert!(rt; !target.lawful(&end, Some(&off)));
     assert!(rt; target.is_idle(1));
+    assert!(rt; !target.is_admin(1));
     assert!(rt; target.queues() == 4);
     let reply = target.submit(1, 1, &entry(0x02, 5));
     status_is(&rt, &reply, 5, 1, 0x0600);
@@ -455,6 +458,7 @@ const TAKEN: [Ask; 4] = [
 fn refuse_read(rt: &impl Abort, target: &mut Target, status: u16) {
     assert!(rt; target.queues() == 4);
     assert!(rt; target.is_idle(1));
+    assert!(rt; !target.is_admin(1));
     let reply = target.submit(1, 0, &entry(0x02, 5));
     status_is(rt, &reply, 5, 1, status);
 }
@@ -490,5 +494,187 @@ fn a_controller_is_enabled_before_it_serves(rt: HostRuntime) -> Result<(), Fail>
     get_property(&rt, &mut target, 3, 0x1c, 1);
     hold(&rt, &mut target, 1, 0, &entry(0x02, 5));
     finish(&rt, alloc, &mut target, 1, 5, 1, &[0; 512]);
+    Ok(())
+}
+
+// A command on an admin queue, and what it gets: opcode, flags, NSID, dwords 10 and 11, SGL length;
+// status and result.
+#[derive(Clone, Copy)]
+struct Admin(u8, u8, u32, u32, u32, u32, u16, u64);
+
+// Submits a command on queue 3, an admin queue, with room for its data.
+#[tactic(auto, using(crate::proofs::Administering::room_short))]
+fn submit_admin(
+    rt: &impl Abort,
+    alloc: Global,
+    target: &mut Target,
+    row: &Admin,
+    cid: u16,
+) -> (Reply, Buffer) {
+    let mut to = Buffer::with_room(alloc, 4096).expect(rt, "memory");
+    let mut e = read_sqe(&[0; 64]);
+    e.opcode = row.0;
+    e.flags = row.1;
+    e.cid = cid;
+    e.nsid = row.2;
+    e.cdw10 = row.3;
+    e.cdw11 = row.4;
+    e.sgl_len = row.5;
+    assert!(rt; e.sgl_len <= 4096);
+    assert!(rt; target.queues() == 4);
+    assert!(rt; target.is_idle(3));
+    assert!(rt; target.is_admin(3));
+    let reply = target.submit_admin(3, 0, &e, &mut to);
+    (reply, to)
+}
+
+// Each must be answered as its row says.
+fn submit_all(rt: &impl Abort, alloc: Global, target: &mut Target, rows: &[Admin]) {
+    for (i, row) in rows.iter().enumerate() {
+        let (reply, _) = submit_admin(rt, alloc, target, row, 9);
+        status_is(rt, &reply, 9, 0, row.6);
+        match reply {
+            Reply::Answered(cqe) => assert_eq!(rt; cqe.result, row.7, "row {i}"),
+            _ => {}
+        }
+    }
+}
+
+const ADMIN: [Admin; 19] = [
+    Admin(0x7e, 0x00, 0, 0, 0, 4, 0x8002, 0),
+    Admin(0x06, 0x00, 0, 0x55, 0, 4095, 0x8004, 0),
+    Admin(0x06, 0x40, 0, 0x55, 0, 4095, 0x801e, 0),
+    Admin(0x06, 0x40, 0, 0x55, 0, 4096, 0x8004, 0),
+    Admin(0x06, 0x40, 9, 0x03, 0, 4096, 0x8016, 0),
+    Admin(0x06, 0x40, 9, 0x00, 0, 4096, 0, 0),
+    Admin(0x08, 0x40, 0, 0, 0, 0, 0, 1),
+    Admin(0x08, 0x40, 0, 0, 0, 4, 0x801e, 0),
+    Admin(0x18, 0x40, 0, 0, 0, 0, 0, 0),
+    Admin(0x0a, 0x40, 0, 0x0b, 0, 0, 0, 0x900),
+    Admin(0x09, 0x40, 0, 0x0b, 0x200, 0, 0x8004, 0),
+    Admin(0x09, 0x40, 0, 0x0b, 0x100, 0, 0, 0),
+    Admin(0x0a, 0x40, 0, 0x0b, 0, 0, 0, 0x100),
+    Admin(0x0a, 0x40, 0, 0x0f, 0, 0, 0, 120_000),
+    Admin(0x09, 0x40, 0, 0x0f, 5_000, 0, 0, 0),
+    Admin(0x0a, 0x40, 0, 0x0f, 0, 0, 0, 5_000),
+    Admin(0x09, 0x40, 0, 0x07, 0xffff, 0, 0x8004, 0),
+    Admin(0x09, 0x40, 0, 0x07, 0x1_0001, 0, 0, 0x007f_007f),
+    Admin(0x09, 0x40, 0, 0x55, 0, 0, 0x8004, 0),
+];
+
+#[test]
+fn admin_commands_are_served(rt: HostRuntime) -> Result<(), Fail> {
+    let alloc = rt.alloc();
+    let mut target = configured(&rt, alloc);
+    connect_all(&rt, &mut target, &JOINED);
+    let keep_alive = Admin(0x18, 0x40, 0, 0, 0, 0, 0x8018, 0);
+    submit_all(&rt, alloc, &mut target, &[keep_alive]);
+    set_cc(&rt, &mut target, 3, 0x0046_0001);
+    submit_all(&rt, alloc, &mut target, &ADMIN);
+    let list = Admin(0x06, 0x40, 0, 0x02, 0, 4096, 0, 0);
+    let (_, to) = submit_admin(&rt, alloc, &mut target, &list, 9);
+    assert_eq!(rt; to.len(), 4096);
+    assert_eq!(rt; &to.bytes()[..8], [1, 0, 0, 0, 0, 0, 0, 0].as_slice());
+    Ok(())
+}
+
+// Four event requests with the command identifiers 10 to 13 wait, and a fifth is refused.
+fn request_events(rt: &impl Abort, alloc: Global, target: &mut Target) {
+    let request = Admin(0x0c, 0x40, 0, 0, 0, 0, 0x820a, 0);
+    for cid in 10..14 {
+        let (reply, _) = submit_admin(rt, alloc, target, &request, cid);
+        assert_eq!(rt; reply, Reply::Waiting);
+    }
+    submit_all(rt, alloc, target, &[request]);
+}
+
+// A poll of queue 3 completes the request with this identifier, with this result.
+fn poll_event(rt: &impl Abort, target: &mut Target, cid: u16, value: u64) {
+    let reply = target.poll(3);
+    status_is(rt, &reply, cid, 0, 0);
+    match reply {
+        Reply::Answered(cqe) => assert_eq!(rt; cqe.result, value),
+        _ => {}
+    }
+}
+
+// Reads a log on queue 3, of which the front must be these bytes.
+fn read_log(rt: &impl Abort, alloc: Global, target: &mut Target, row: &Admin, front: &[u8]) {
+    let (reply, to) = submit_admin(rt, alloc, target, row, 9);
+    status_is(rt, &reply, 9, 0, 0);
+    assert_eq!(rt; to.len(), row.5 as usize);
+    assert!(rt; front.len() <= to.bytes().len());
+    assert_eq!(rt; &to.bytes()[..front.len()], front);
+}
+
+// Disables namespace 1 and ends its drain; or enables it.
+fn turn(rt: &impl Abort, alloc: Global, target: &mut Target, on: bool) {
+    let value: &[u8] = if on { b"1" } else { b"0" };
+    let e = set_space(rt, alloc, Attr::Enable, value);
+    edit(rt, alloc, target, &e, Reply::Accepted);
+    if !on {
+        end_drain(rt, target);
+    }
+}
+
+#[test]
+fn notices_tell_of_changes(rt: HostRuntime) -> Result<(), Fail> {
+    let alloc = rt.alloc();
+    let mut target = configured(&rt, alloc);
+    connect_all(&rt, &mut target, &JOINED);
+    set_cc(&rt, &mut target, 3, 0x0046_0001);
+    request_events(&rt, alloc, &mut target);
+    assert_eq!(rt; target.poll(3), Reply::NoEvent);
+    turn(&rt, alloc, &mut target, false);
+    assert_eq!(rt; target.poll(1), Reply::NoEvent);
+    poll_event(&rt, &mut target, 13, 0x0004_0002);
+    assert_eq!(rt; target.poll(3), Reply::NoEvent);
+    turn(&rt, alloc, &mut target, true);
+    assert_eq!(rt; target.poll(3), Reply::NoEvent);
+    let retained = Admin(0x02, 0x40, 0, 0x03ff_8004, 0, 4096, 0, 0);
+    let cleared = Admin(0x02, 0x40, 0, 0x03ff_0004, 0, 4096, 0, 0);
+    read_log(
+        &rt,
+        alloc,
+        &mut target,
+        &retained,
+        &[1, 0, 0, 0, 0, 0, 0, 0],
+    );
+    read_log(&rt, alloc, &mut target, &cleared, &[1, 0, 0, 0, 0, 0, 0, 0]);
+    read_log(&rt, alloc, &mut target, &retained, &[0; 8]);
+    assert_eq!(rt; target.poll(3), Reply::NoEvent);
+    turn(&rt, alloc, &mut target, false);
+    poll_event(&rt, &mut target, 12, 0x0004_0002);
+    let state = set(
+        &rt,
+        alloc,
+        Folder::AnaGroup(1, 1),
+        Attr::AnaState,
+        b"inaccessible",
+    );
+    edit(&rt, alloc, &mut target, &state, Reply::Accepted);
+    poll_event(&rt, &mut target, 11, 0x000c_0302);
+    Ok(())
+}
+
+// One group with one enabled namespace.
+const ANA_LOG: [u8; 52] = [
+    0, 0, 0, 0, 0, 0, 0, 0, 1, 0, 0, 0, 0, 0, 0, 0, 1, 0, 0, 0, 1, 0, 0, 0, 0, 0, 0, 0, 0, 0, 0, 0,
+    1, 0, 0, 0, 0, 0, 0, 0, 0, 0, 0, 0, 0, 0, 0, 0, 1, 0, 0, 0,
+];
+
+#[test]
+fn logs_are_read(rt: HostRuntime) -> Result<(), Fail> {
+    let alloc = rt.alloc();
+    let mut target = configured(&rt, alloc);
+    connect_all(&rt, &mut target, &JOINED);
+    set_cc(&rt, &mut target, 3, 0x0046_0001);
+    let log = Admin(0x02, 0x40, 0, 0x000c_000c, 0, 52, 0, 0);
+    read_log(&rt, alloc, &mut target, &log, &ANA_LOG);
+    let refused = [
+        Admin(0x02, 0x40, 0, 0x000c_0002, 0, 52, 0x8004, 0),
+        Admin(0x02, 0x40, 0, 0x000c_000c, 0, 51, 0x801e, 0),
+    ];
+    submit_all(&rt, alloc, &mut target, &refused);
     Ok(())
 }

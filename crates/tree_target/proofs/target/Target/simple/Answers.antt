@@ -17,6 +17,9 @@ invariant_of-result c =
       c.in_ok-push-2.ensures.items,
       c.new-bindings.ensures.items,
       c.in_ok-held.ensures.items,
+      c.add.ensures,
+      c.in_ok-states.ensures,
+      c.in_ok-stamps.ensures,
     )
     (simple_kept c.args.disk.now (vec_capacity c.in_ok-held.held) room)
 
@@ -30,5 +33,8 @@ returns-clause-stands c = rw (
   c.in_ok-push-2.ensures.items,
   c.new-bindings.ensures.items,
   c.in_ok-held.ensures.items,
+  c.add.ensures,
+  c.in_ok-states.ensures,
+  c.in_ok-stamps.ensures,
 )
     (simple_stands c.args.disk.now)
