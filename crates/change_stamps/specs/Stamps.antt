@@ -1,5 +1,5 @@
 -- The serials of last changes, and what a published change stamps.
-use Rattle.std.specs.Prelude.{◌≡◌, ℕ, ◌+◌, ◌*◌, ◌-◌, ◌^◌, min, max, nat_le, if◌then◌else◌, List, replicate, length, Option, Some, None, slice_index, slice_set}
+use Rattle.std.specs.Prelude.{ℕ, ◌+◌, ◌*◌, ◌-◌, ◌^◌, min, max, nat_le, if◌then◌else◌, List, replicate, Option, Some, None, slice_index, slice_set}
 use Rattle.sqe_cqe.specs.declared.rows.TheConstants.{MAX_NSID}
 use Rattle.configfs_rows.specs.declared.limits.TheConstants.{MAX_SUBSYSTEMS, MAX_PORTS}
 use Rattle.configfs_tree.specs.declared.edits.Change.{Change}

@@ -1,17 +1,16 @@
 -- Stamps are a fold of marks, and so are notices.
 use Rattle.std.proofs.Common.{◌≡◌, ◌≤◌, ◌<◌, ◌+◌, ◌*◌, ◌-◌, ◌^◌, ◌==◌, ◌&&◌, ◌||◌, min, max, nat_le, nat_lt, ℕ, zero, suc, Bool, true, false, cond, List, [], ◌∷◌, length, replicate, Option, Some, None, slice_index, slice_set, refl, sym, ap, subst, ◌∙◌, arith}
-use Rattle.std.proofs.lemmas.Bool.{both_ways, eqb-true, le-leb}
+use Rattle.std.proofs.lemmas.Bool.{both_ways, eqb-true}
 use Rattle.std.proofs.lemmas.List.{get_or-set_same, get_or-set_other, length-set, length-replicate}
 use Rattle.sqe_cqe.specs.declared.rows.TheConstants.{MAX_NSID}
 use Rattle.configfs_rows.specs.declared.limits.TheConstants.{MAX_SUBSYSTEMS, MAX_PORTS}
 use Rattle.configfs_tree.specs.declared.edits.Change.{Change}
-use Rattle.async_events.specs.declared.events.Events.{Events}
-use Rattle.async_events.specs.Notices.{Mark, Published, Passes, is_nsid, notices_after, listed_after}
+use Rattle.async_events.specs.Notices.{Published, Passes, is_nsid}
 use Rattle.async_events.specs.Stamps.{Stamps as SeenStamps, stamped as seen_stamped, stamps_after as seen_after, shown}
 use Rattle.async_events.specs.Laws.{IsQuiet, AreQuiet, KeepsList, AllKeepList}
 use Rattle.async_events.proofs.Folds.{shows_fold, stamps_list}
 use Rattle.change_stamps.specs.Stamps.{Stamps, place_of, space_stamp, ana_stamp, next_serial, stamped_at, space_place, stamped, stamps_after, untouched, no_stamps}
-use Rattle.notice_laws.specs.Marks.{nsid_for, is_at, mark_of, marks_of, seen_by, after_changes, AreSound, SpaceInRange, PlaceInRange, IsInRange, AreInRange}
+use Rattle.notice_laws.specs.Marks.{nsid_for, is_at, marks_of, seen_by, after_changes, AreSound, SpaceInRange, PlaceInRange, IsInRange, AreInRange}
 use Rattle.notice_laws.specs.Laws.{StampsAreMarks, StartIsSound, StampsStaySound, NoticesAreTheFold, ListIsTheFold}
 
 -- ---- tests on numbers

@@ -1,8 +1,8 @@
 -- A command of an admin queue does what the model does.
-use Rattle.std.proofs.Common.{◌≡◌, ◌≢◌, ◌≤◌, ◌==◌, ◌-◌, nat_le, ℕ, zero, suc, Bool, true, false, cond, List, [], ◌∷◌, length, Option, Some, None, slice_get, slice_set, refl, sym, ap, subst, ◌∙◌, arith}
+use Rattle.std.proofs.Common.{◌≡◌, ◌≢◌, ◌≤◌, ◌-◌, nat_le, ℕ, zero, suc, Bool, true, false, cond, List, [], length, Option, Some, None, slice_get, slice_set, refl, sym, ap, subst, ◌∙◌, arith}
 use Rattle.std.proofs.lemmas.Bool.{both_ways}
 use Rattle.std.proofs.lemmas.List.{append-nil, length-set}
-use Rattle.mem_bdev.specs.Texts.{Text, HasRoom, appended}
+use Rattle.mem_bdev.specs.Texts.{Text, appended}
 use Rattle.mem_bdev.specs.declared.limits.TheConstants.{MAX_TRANSFER}
 use Rattle.sqe_cqe.specs.declared.sqe.Sqe.{Sqe}
 use Rattle.sqe_cqe.specs.declared.codes.TheConstants.{INVALID_OPCODE}
@@ -21,13 +21,12 @@ use Rattle.fabrics_connect.specs.Checks.{numbered}
 use Rattle.admin_commands.specs.declared.admit.AdminReply.{AdminReply}
 use Rattle.admin_commands.specs.declared.admit.AdminReply.TheVariants as admin
 use Rattle.async_events.specs.declared.events.Events.{Events}
-use Rattle.admin_commands.specs.Admin.{given_with, admin_reply, admin_bytes, events_after, polled, event_of, most_given, AdmitsAt, PollsAt}
-use Rattle.tree_target.specs.declared.calls.Reply.{Reply}
+use Rattle.admin_commands.specs.Admin.{given_with, admin_reply, admin_bytes, events_after, polled, most_given, AdmitsAt, PollsAt}
 use Rattle.tree_target.specs.declared.calls.Reply.TheVariants as replies
 use Rattle.tree_target.specs.Model.{Submit, Poll, Bound, Binding, Target, bound_at, qid_of}
 use Rattle.tree_target.specs.Controls.{placed_bound}
 use Rattle.tree_target.specs.Views.{view_at}
-use Rattle.tree_target.specs.Admission.{Admission, Completes, Waits, refused, of_reply, events_numbered, put_events, as_bound, of_controller, events_with, of_qid, of_bound, of_binding, admission, events_by_qid, events_by_bound, events_by_binding, events_submitted, events_polled, event_with, event_by_qid, event_by_bound, event_by_binding, event_at}
+use Rattle.tree_target.specs.Admission.{Admission, of_reply, events_numbered, put_events, as_bound, of_controller, events_with, of_qid, of_bound, of_binding, admission, events_by_qid, events_by_bound, events_by_binding, events_submitted, events_polled, event_with, event_by_qid, event_by_bound, event_by_binding, event_at}
 use Rattle.tree_target.specs.Steps.{reply_of, bytes_of, changed, submitted, bytes_submitted, after_submit, polled_reply}
 use Rattle.tree_target.specs.Kept.{Kept, IsKept, LeavesOthers, bound_from, bound_in, qid_from, seen_by, is_admin_bound, is_admin_in, is_admin_reply, given_room, reply_with, event_reply, ctrl_for, ServesAdmin, PollsAdmin}
 use Rattle.tree_target.specs.Stands.{IsBound, IsBoundAs, StandsFor, Simulates, SubmitsAdmin}

@@ -5,7 +5,6 @@ use Rattle.std.proofs.lemmas.Bool.{both_ways}
 use Rattle.mem_bdev.specs.Blocks.{Blocks}
 use Rattle.mem_bdev.specs.declared.limits.TheConstants.{MAX_TRANSFER}
 use Rattle.sqe_cqe.specs.declared.sqe.Sqe.{Sqe}
-use Rattle.sqe_cqe.specs.declared.codes.TheConstants.{INVALID_OPCODE}
 use Rattle.sqe_cqe.specs.declared.rows.Seen.TheVariants.{Off}
 use Rattle.sqe_cqe.specs.declared.controllers.Bound.{Bound as CodeBound}
 use Rattle.sqe_cqe.specs.declared.controllers.Binding.{Binding as CodeBinding}
@@ -28,7 +27,7 @@ use Rattle.configfs_tree.specs.Stays.{SubsystemAt, PortAt}
 use Rattle.async_events.specs.declared.events.Events.{Events}
 use Rattle.tree_target.specs.declared.calls.Command.{Command}
 use Rattle.tree_target.specs.declared.calls.Reply.TheVariants as replies
-use Rattle.tree_target.specs.Model.{Submit, Control, Bound, Binding, Target, binding_in, bound_of, bound_at, qid_of, is_command}
+use Rattle.tree_target.specs.Model.{Submit, Bound, Binding, Target, binding_in, bound_of, bound_at, qid_of, is_command}
 use Rattle.tree_target.specs.Views.{space_in, row_of, on_blocks, on_disk, seen_of, seen_from, subsystem_named, port_named, view_at}
 use Rattle.std.specs.Option.{unwrap_or}
 use Rattle.change_stamps.specs.Stamps.{Stamps}

@@ -1,8 +1,6 @@
 -- A fabrics command of the program's target does what the model does.
-use Rattle.std.proofs.Common.{◌≡◌, ℕ, zero, suc, ◌<◌, true, List, [], ◌∷◌, ◌++◌, length, Option, Some, None, slice_get, slice_set, refl, sym, ap, subst, ◌∙◌, arith}
-use Rattle.std.specs.FinMap as map
+use Rattle.std.proofs.Common.{◌≡◌, ℕ, zero, suc, ◌<◌, true, List, [], ◌∷◌, length, Option, Some, None, slice_get, slice_set, refl, sym, ap, subst, ◌∙◌, arith}
 use Rattle.std.specs.List.{AllByRecursion}
-use Rattle.std.specs.Option.{unwrap_or}
 use Rattle.std.specs.Prelude.{IfSome}
 use Rattle.std.proofs.lemmas.List.{length-set, length-append}
 use Rattle.sqe_cqe.specs.Connect.{keep_alive_of}
@@ -13,9 +11,7 @@ use Rattle.sqe_cqe.specs.declared.sqe.Sqe.{Sqe}
 use Rattle.sqe_cqe.specs.declared.controllers.Bound.{Bound as CodeBound}
 use Rattle.sqe_cqe.specs.declared.controllers.Binding.{Binding as CodeBinding}
 use Rattle.sqe_cqe.specs.declared.controllers.ControllerRow.{ControllerRow}
-use Rattle.configfs_rows.specs.declared.subsystems.SubsystemRow.{SubsystemRow}
-use Rattle.configfs_rows.specs.declared.ports.PortRow.{PortRow}
-use Rattle.configfs_tree.specs.Links.{subsystem_place, port_place, with_attached}
+use Rattle.configfs_tree.specs.Links.{with_attached}
 use Rattle.configfs_tree.specs.Standing.{IsStanding}
 use Rattle.configfs_tree.specs.Stays.{is_subsystem_attached, is_port_attached, PortAt}
 use Rattle.configfs_tree.specs.declared.configuration.Configuration.{Configuration}
@@ -24,10 +20,9 @@ use Rattle.fabrics_connect.specs.declared.answer.Answer.TheVariants.{Refused, Ma
 use Rattle.fabrics_connect.specs.Checks.{control_answer}
 use Rattle.fabrics_connect.specs.After.{AttachedAreThere, FitsAnswer, HasRoom, completion_of, controllers_after, tree_after, binding_after, made_by, is_published, new_controller, with_qid}
 use Rattle.fabrics_connect.specs.Registers.{after_set}
-use Rattle.plan_files.specs.declared.plan.TheConstants.{MAX_QUEUES}
 use Rattle.tree_target.specs.declared.calls.Reply.TheVariants as replies
 use Rattle.tree_target.specs.Model.{Control, Bound, Binding, Target}
-use Rattle.tree_target.specs.Controls.{placed_bound, placed_in, placed, answer_on, controlled, named, bound_after, events_made, raised_if, put_binding, subsystem_in, after_answer, after_control}
+use Rattle.tree_target.specs.Controls.{placed_in, placed, answer_on, controlled, named, bound_after, events_made, raised_if, subsystem_in, after_answer, after_control}
 use Rattle.tree_target.specs.Joined.{AreJoined}
 use Rattle.tree_target.specs.Steps.{reply_of, bytes_of, changed}
 use Rattle.tree_target.specs.Kept.{Kept, IsKept, states_made, IsNumbered, LeavesOthers, binding_in}

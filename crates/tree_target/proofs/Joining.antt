@@ -1,8 +1,7 @@
 -- What joins the tree, the controllers and the queues, along edits and after fabrics commands.
-use Rattle.std.proofs.Common.{◌≡◌, ℕ, zero, suc, ◌+◌, ◌<◌, ◌≤◌, Bool, true, false, List, [], ◌∷◌, ◌++◌, length, Option, Some, None, nat_lt, slice_index, slice_get, slice_set, refl, sym, ap, subst, ◌∙◌, arith}
+use Rattle.std.proofs.Common.{◌≡◌, ℕ, zero, suc, ◌+◌, ◌<◌, ◌≤◌, true, List, [], ◌∷◌, ◌++◌, length, Option, Some, None, nat_lt, slice_index, slice_get, slice_set, refl, sym, ap, subst, ◌∙◌, arith}
 use Rattle.std.specs.List.{AllByRecursion}
 use Rattle.std.proofs.lemmas.List.{length-set, length-append, get_or-set_same}
-use Rattle.std.specs.FinMap as map
 use Rattle.sqe_cqe.specs.declared.controllers.Bound.{Bound}
 use Rattle.sqe_cqe.specs.declared.controllers.Binding.{Binding}
 use Rattle.sqe_cqe.specs.declared.controllers.ControllerRow.{ControllerRow}
@@ -14,7 +13,6 @@ use Rattle.configfs_tree.specs.Links.{one_more, subsystem_row, with_attached}
 use Rattle.configfs_tree.specs.Stays.{is_subsystem_attached, is_port_attached, SubsystemAt, PortAt}
 use Rattle.fabrics_connect.specs.declared.answer.Answer.{Answer}
 use Rattle.fabrics_connect.specs.declared.answer.Answer.TheVariants.{Refused, Makes, Joins, Reads, Sets}
-use Rattle.fabrics_connect.specs.Checks.{numbered}
 use Rattle.fabrics_connect.specs.Registers.{after_set}
 use Rattle.fabrics_connect.specs.After.{AttachedAreThere, ctrl_at, new_controller, changed, changed_at, changed_bound, with_qid, controllers_after, tree_after, binding_after}
 use Rattle.tree_target.specs.Joined.{IsAttached, AreJoined, one_if, connected}

@@ -1,4 +1,4 @@
-use Rattle.std.proofs.Common.{◌≡◌, Bool, ◌≤◌, ◌<◌, ℕ, ◌-◌, suc, length, get_or, List, Option, Some, slice_get, refl, ap, ◌∙◌, arith}
+use Rattle.std.proofs.Common.{◌≡◌, Bool, ◌≤◌, ℕ, ◌-◌, suc, length, get_or, List, Option, Some, slice_get, refl, ap, ◌∙◌, arith}
 use Rattle.std.proofs.lemmas.Option.{slice_get_read}
 use Rattle.sqe_cqe.specs.declared.controllers.Binding.{Binding}
 use Rattle.sqe_cqe.specs.declared.sqe.Sqe.{Sqe}

@@ -1,4 +1,4 @@
-use Rattle.std.proofs.Common.{◌≡◌, true, false, Some, sym, ap, subst, ◌∙◌}
+use Rattle.std.proofs.Common.{◌≡◌, true, Some, sym, ap, ◌∙◌}
 use Rattle.tree_target.specs.Kept.{Kept, bound_in, is_admin_in}
 use Rattle.tree_target.specs.contracts.target.Target.{the_view}
 use Rattle.tree_target.proofs.Administering.{none_does, polls_does, admin_qid}
