@@ -1,6 +1,5 @@
 -- What came of reading one file.
-use Rattle.std.proofs.Common.{◌≡◌, ◌≤◌, ◌<◌, ℕ, ◌+◌, false, List, length, Option, Some, None, Result, Ok, Err, refl, sym, ap, subst, ◌∙◌, arith}
-use Rattle.std.specs.Prelude.{IsTrue, IfSome, IfOk, IfErr}
+use Rattle.std.proofs.Common.{◌≡◌, ◌≤◌, ◌<◌, ℕ, ◌+◌, false, List, length, Result, Ok, Err, refl, sym, subst, ◌∙◌, arith}
 use Rattle.std.proofs.lemmas.Bool.{le-ltb, lt-ltb}
 use Rattle.plan_files.specs.declared.limits.What.{What}
 use Rattle.plan_files.specs.declared.limits.What.TheVariants.{Bytes}
@@ -12,7 +11,7 @@ use Rattle.run_outcomes.specs.Outsides.{Told, HoldsOf, FilesView, FailedCall}
 use Rattle.run_inputs.specs.Contents.{content_of}
 use Rattle.run_inputs.specs.Known.{Known}
 use Rattle.run_inputs.specs.Reading.{ReadsSo, Reading}
-use Rattle.run_inputs.specs.Stages.{IsOver, ContentRefused, Refuses, Gives, GivesFault}
+use Rattle.run_inputs.specs.Stages.{ContentRefused, Refuses, GivesFault}
 use Rattle.run_inputs.specs.Views.{IsEarlier}
 
 -- ---- views

@@ -1,11 +1,10 @@
 -- What the bytes of each kind of file give.
-use Rattle.std.proofs.Common.{◌≡◌, ◌≤◌, ◌<◌, ℕ, ◌+◌, List, [], ◌∷◌, ◌++◌, length, map, sum, Option, Some, None, Result, Ok, Err, refl, sym, ap, subst, inl, inr, ◌∙◌, arith}
+use Rattle.std.proofs.Common.{◌≡◌, ◌≤◌, ℕ, ◌+◌, List, [], ◌∷◌, length, map, sum, Some, Result, Ok, Err, refl, sym, ap, inr, ◌∙◌}
 use Rattle.std.specs.Prelude.{IfOk, IfErr}
 use Rattle.std.specs.List.{sum_by}
 use Rattle.std.proofs.lemmas.List.Sums.{sum-map}
 use Rattle.std.proofs.lemmas.Simd.{map-map}
-use Rattle.plan_files.specs.declared.limits.What.TheVariants.{Bytes, AllInput, AllOutput}
-use Rattle.plan_files.specs.Binding.{◌>>=◌}
+use Rattle.plan_files.specs.declared.limits.What.TheVariants.{AllInput, AllOutput}
 use Rattle.plan_files.specs.declared.items.Plan.{Plan}
 use Rattle.plan_files.specs.declared.plan.PlanError.{PlanError}
 use Rattle.plan_files.specs.declared.plan.PlanError.TheVariants as plans
@@ -26,11 +25,10 @@ use Rattle.run_transcript.specs.declared.scripts.ScriptEdit.{ScriptEdit}
 use Rattle.run_outcomes.specs.declared.numbers.FileNo.{FileNo}
 use Rattle.run_outcomes.specs.declared.numbers.TheConstants.{PLAN, SCRIPT}
 use Rattle.run_outcomes.specs.declared.faults.Fault.{Fault}
-use Rattle.run_outcomes.specs.declared.faults.Fault.TheVariants as fault
 use Rattle.run_outcomes.specs.Outsides.{Told, FilesView, HoldsOf}
-use Rattle.run_inputs.specs.Contents.{content_of, total_of}
+use Rattle.run_inputs.specs.Contents.{total_of}
 use Rattle.run_inputs.specs.Gives.{PlanBegins, ScriptGives, CapsulesGive, FileGives}
-use Rattle.run_inputs.specs.InputFiles.{InputFile, TheConfiguration, TheScript, TheCapsules, script_files, configuration_files, capsule_files, capsule_file}
+use Rattle.run_inputs.specs.InputFiles.{InputFile, TheScript, script_files}
 use Rattle.run_inputs.specs.Known.{Known, begun}
 use Rattle.run_inputs.specs.PlanFile as plan_file
 use Rattle.run_inputs.specs.PlanFile.{plan_error, plan_of_file, begun_by}
@@ -39,8 +37,7 @@ use Rattle.run_inputs.specs.ScriptFile.{line_error, script_of_file, with_script}
 use Rattle.run_inputs.specs.QueueFile as queue_file
 use Rattle.run_inputs.specs.QueueFile.{Counted, capsule_error, counted, counted_in, queue_of_file, room_of_all, with_file}
 use Rattle.run_inputs.specs.Reading.{ReadsSo, Reading}
-use Rattle.run_inputs.specs.Stages.{ContentRefused, Refuses, Gives, GivesFault, ReadOn, StoppedIn, ReadsQueue}
-use Rattle.run_inputs.specs.Views.{IsEarlier}
+use Rattle.run_inputs.specs.Stages.{ContentRefused, Refuses, Gives, ReadOn, StoppedIn, ReadsQueue}
 use Rattle.run_inputs.proofs.OneFile.{holds_then, reading_then, within, over, IsLimited, content_stops, bytes_stop, fault_given, first_refuses, refuses_so}
 
 -- ---- the plan

@@ -1,14 +1,13 @@
 -- The capsule files one after another, as a loop reads them.
-use Rattle.std.proofs.Common.{◌≡◌, ◌≤◌, ◌<◌, ℕ, suc, ◌+◌, List, [], ◌∷◌, ◌++◌, length, drop, get_or, drop-cons, add-one, Result, Ok, Err, refl, sym, ap, subst, inl, inr, ◌∙◌}
+use Rattle.std.proofs.Common.{◌≡◌, ◌<◌, ℕ, suc, ◌+◌, List, [], ◌∷◌, ◌++◌, length, drop, get_or, drop-cons, add-one, Result, Ok, Err, refl, sym, ap, subst, inr, ◌∙◌}
 use Rattle.plan_files.specs.declared.items.QueueLine.{QueueLine}
 use Rattle.plan_files.specs.Capsules.{Capsule}
 use Rattle.run_outcomes.specs.Numbers.{capsules_no}
 use Rattle.run_outcomes.specs.declared.numbers.FileNo.{FileNo}
 use Rattle.run_outcomes.specs.declared.faults.Fault.{Fault}
-use Rattle.run_outcomes.specs.declared.faults.Fault.TheVariants as fault
 use Rattle.run_outcomes.specs.Outsides.{FilesView}
 use Rattle.run_inputs.specs.Gives.{CapsulesGive}
-use Rattle.run_inputs.specs.InputFiles.{InputFile, capsule_files}
+use Rattle.run_inputs.specs.InputFiles.{capsule_files}
 use Rattle.run_inputs.specs.Known.{Known}
 use Rattle.run_inputs.specs.QueueFile.{Counted}
 use Rattle.run_inputs.specs.Reading.{Reading, ReadsFiles}

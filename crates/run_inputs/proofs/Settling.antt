@@ -1,6 +1,5 @@
 -- What told files give settles what is read of them.
-use Rattle.std.proofs.Common.{◌≡◌, ◌⊎◌, ◌≤◌, ℕ, List, [], ◌∷◌, Option, Some, None, Result, Ok, Err, refl, sym, subst, inl, inr, ◌∙◌}
-use Rattle.std.specs.Prelude.{IfOk, IfErr}
+use Rattle.std.proofs.Common.{◌≡◌, ◌⊎◌, ℕ, List, [], ◌∷◌, Some, Result, Ok, Err, refl, sym, subst, inl, inr, ◌∙◌}
 use Rattle.serde_json.specs.Data.{Data}
 use Rattle.nvmetcli_json.specs.Loading.{IsJson}
 use Rattle.run_outside.specs.Outside.{Rose}
@@ -14,7 +13,7 @@ use Rattle.run_inputs.specs.Contents.{content_of}
 use Rattle.run_inputs.specs.Gives.{PlanBegins, KindGives, FileGives}
 use Rattle.run_inputs.specs.InputFiles.{Kind, TheConfiguration, TheScript, TheCapsules, InputFile, input_files}
 use Rattle.run_inputs.specs.Known.{Known}
-use Rattle.run_inputs.specs.Reading.{ReadsSo, Reading, ReadsFiles, ReadsAll, Tells, FilesTell}
+use Rattle.run_inputs.specs.Reading.{ReadsSo, Reading, ReadsAll, Tells, FilesTell}
 use Rattle.run_inputs.specs.Walk.{Then, Walk}
 
 -- ---- bytes give one thing

@@ -1,28 +1,23 @@
 -- What the bytes of a configuration give, and the start of a simple plan.
-use Rattle.std.proofs.Common.{◌≡◌, ◌≤◌, ◌<◌, ℕ, ◌+◌, List, [], ◌∷◌, length, Option, Some, None, Result, Ok, Err, refl, sym, ap, subst, inl, inr, ◌∙◌}
+use Rattle.std.proofs.Common.{◌≡◌, ◌≤◌, ℕ, List, length, Option, Some, None, Result, Ok, Err, refl, inl, inr}
 use Rattle.std.specs.Prelude.{IfOk, IfErr}
-use Rattle.serde_json.specs.Data.{Data}
 use Rattle.nvmetcli_json.specs.declared.error.JsonError.{JsonError}
 use Rattle.nvmetcli_json.specs.declared.error.JsonError.TheVariants as errors
 use Rattle.nvmetcli_json.specs.declared.loading.Loaded as config
-use Rattle.nvmetcli_json.specs.Loading.{edits_in}
 use Rattle.nvmetcli_json.specs.Loaded.{LoadGives, IsLoaded}
 use Rattle.plan_files.specs.declared.items.Plan.{Plan}
 use Rattle.tree_target.specs.Kept.{Kept}
-use Rattle.tree_target.specs.Loads.{Loaded, RefusedEdit, LoadedTree, LoadsWell, loaded, loaded_target}
+use Rattle.tree_target.specs.Loads.{LoadsWell, loaded, loaded_target}
 use Rattle.tree_target.specs.Stands.{StandsFor}
-use Rattle.run_outcomes.specs.declared.numbers.FileNo.{FileNo}
 use Rattle.run_outcomes.specs.declared.numbers.TheConstants.{CONFIG}
 use Rattle.run_outcomes.specs.declared.faults.Fault.{Fault}
 use Rattle.run_outcomes.specs.declared.faults.Fault.TheVariants as fault
-use Rattle.run_outcomes.specs.Outsides.{Told, FilesView, HoldsOf}
+use Rattle.run_outcomes.specs.Outsides.{FilesView, HoldsOf}
 use Rattle.run_inputs.specs.declared.configuration_file.Start.{Start}
 use Rattle.run_inputs.specs.ConfigurationFile.{json_error, value_started, TextStarts, ConfigurationStarts}
-use Rattle.run_inputs.specs.Contents.{content_of}
 use Rattle.run_inputs.specs.InputFiles.{InputFile, TheConfiguration, configuration_files}
 use Rattle.run_inputs.specs.Known.{Known, begun, ports_of}
 use Rattle.run_inputs.specs.Stages.{ContentRefused, EditsRefused, GivesFault, StartsText, StartsIn, StoppedIn}
-use Rattle.run_inputs.specs.Views.{IsEarlier}
 use Rattle.run_inputs.proofs.OneFile.{holds_then, within, over, IsLimited, content_stops, bytes_stop}
 use Rattle.run_inputs.proofs.Parsing.{stop_here}
 

@@ -1,23 +1,21 @@
 -- Files read one after another: fronts, and what comes after them.
-use Rattle.std.proofs.Common.{◌≡◌, ℕ, List, [], ◌∷◌, ◌++◌, map, Option, Result, Ok, Err, refl, sym, subst, inl, inr}
-use Rattle.mem_bdev.specs.declared.disk.DiskLine.{DiskLine}
+use Rattle.std.proofs.Common.{◌≡◌, ℕ, List, [], ◌∷◌, ◌++◌, map, Result, Ok, Err, refl, subst, inl, inr}
 use Rattle.plan_files.specs.declared.items.Plan.{Plan}
 use Rattle.run_transcript.specs.declared.scripts.ScriptEdit.{ScriptEdit}
 use Rattle.run_transcript.specs.declared.capsule_files.CapsuleFile.{CapsuleFile}
 use Rattle.tree_target.specs.Kept.{Kept}
 use Rattle.tree_target.specs.Model.{Target}
 use Rattle.run_outcomes.specs.declared.faults.Fault.{Fault}
-use Rattle.run_outcomes.specs.declared.faults.Fault.TheVariants as fault
 use Rattle.run_outcomes.specs.Outsides.{FilesView}
 use Rattle.run_inputs.specs.Gives.{FileGives}
 use Rattle.run_inputs.specs.InputFiles.{InputFile, configuration_files, script_files, capsule_files, input_files}
 use Rattle.run_inputs.specs.Known.{Known, begun}
-use Rattle.run_inputs.specs.Reading.{Reading, ReadsFiles}
+use Rattle.run_inputs.specs.Reading.{WasRead, Reading, RestWasRead}
 use Rattle.run_inputs.specs.Ready.{Holds, capsules_of_file}
 use Rattle.run_inputs.specs.Stages.{ReadOn, StoppedIn, StartsIn, QueuesRead, with_files}
 use Rattle.run_inputs.specs.Views.{IsEarlier}
 use Rattle.run_inputs.specs.Walk.{Saying, Then, Walk}
-use Rattle.run_inputs.proofs.OneFile.{earlier_again}
+use Rattle.run_inputs.proofs.OneFile.{earlier_again, earlier_itself}
 
 -- a step, and the files behind those that were read
 then_step : (Says : Saying) (x : InputFile) (xs ys : List InputFile) (s t : Known)
@@ -49,6 +47,23 @@ pub walk_stops : (Says : Saying) (xs ys : List InputFile) (s : Known) (f : Fault
 walk_stops Says [] ys s f h = absurd cc
 walk_stops Says (x ∷ xs) ys s f h = stop_step Says x xs ys s f
     (λ v rest. walk_stops Says xs ys v f rest) h.0 h.1 h.2
+
+-- ---- what was read
+
+was_step : (before after : FilesView) (x : InputFile) (xs : List InputFile) (s t : Known)
+    → ((v : Known) → Walk (Reading before after) xs v (Ok t)
+    → Walk (WasRead before.told) xs v (Ok t))
+    → (u : Result Known Fault) → Reading before after x.number x.name (FileGives x s) u
+    → Then u (Walk (Reading before after) xs) (Ok t) → Walk (WasRead before.told) (x ∷ xs) s (Ok t)
+was_step before after x xs s t more (Ok v) says rest = (Ok v, says, more v rest)
+was_step before after x xs s t more (Err f) says rest = absurd cc
+
+-- where reading did not end by a fault, all was read
+pub walk_was : (before after : FilesView) (files : List InputFile) (s t : Known)
+    → Walk (Reading before after) files s (Ok t) → Walk (WasRead before.told) files s (Ok t)
+walk_was before after [] s t h = h
+walk_was before after (x ∷ xs) s t h = was_step before after x xs s t
+    (λ v rest. walk_was before after xs v t rest) h.0 h.1 h.2
 
 -- ---- stages
 pub read_both : (now mid : FilesView) (xs ys : List InputFile) (s t u : Known) → IsEarlier now mid
@@ -123,6 +138,11 @@ plan_queues_stop now mid last after plan target count edits f later then start s
     (stop_second mid last after (script_files plan.script) (capsule_files 1 plan.queues)
     (with_start plan start.start count) (with_edits plan start.start count edits) f then
     (script (with_start plan start.start count)) (h (with_edits plan start.start count edits)))
+
+pub rest_was : (now : FilesView) (plan : Plan) (known : Known)
+    → ReadOn now (input_files plan) (begun plan) known → RestWasRead now.told plan known
+rest_was now plan known h = walk_was now now (input_files plan) (begun plan) known
+    (h now now (earlier_itself now))
 
 -- all of them were read
 pub record AllRead (now : FilesView) (plan : Plan) (target : Kept) (count : ℕ)

@@ -1,21 +1,18 @@
 -- All files of a run, by those of its plan.
-use Rattle.std.proofs.Common.{◌≡◌, ℕ, List, Option, Result, Ok, Err, refl, sym, subst, inl, inr}
+use Rattle.std.proofs.Common.{ℕ, List, Ok, Err, refl, sym, subst, inl, inr}
 use Rattle.plan_files.specs.declared.items.Plan.{Plan}
-use Rattle.run_transcript.specs.declared.scripts.ScriptEdit.{ScriptEdit}
-use Rattle.run_transcript.specs.declared.capsule_files.CapsuleFile.{CapsuleFile}
-use Rattle.tree_target.specs.Kept.{Kept}
 use Rattle.run_outcomes.specs.declared.numbers.TheConstants.{PLAN}
 use Rattle.run_outcomes.specs.declared.faults.Fault.{Fault}
 use Rattle.run_outcomes.specs.declared.faults.Fault.TheVariants as fault
 use Rattle.run_outcomes.specs.Outsides.{FilesView}
 use Rattle.run_inputs.specs.Gives.{PlanBegins}
 use Rattle.run_inputs.specs.InputFiles.{input_files}
-use Rattle.run_inputs.specs.Known.{Known, begun}
+use Rattle.run_inputs.specs.Known.{begun}
 use Rattle.run_inputs.specs.Reading.{ReadsSo, Reading, ReadsAll}
 use Rattle.run_inputs.specs.Ready.{ReadsRest, ReadsInputs}
 use Rattle.run_inputs.specs.Stages.{StoppedIn}
 use Rattle.run_inputs.specs.Views.{IsEarlier}
-use Rattle.run_inputs.specs.declared.inputs.Inputs.{Inputs}
+use Rattle.run_inputs.proofs.Walking.{walk_was}
 use Rattle.run_inputs.specs.declared.inputs.PlanInputs.{PlanInputs}
 
 -- a plan that was not read
@@ -38,18 +35,32 @@ rest_ends before mid after name plan f h later stops = elim stops [
 ]
 
 -- all files were read
-pub rest_read : (before mid after : FilesView) (name : List ℕ) (plan : Plan) (i : PlanInputs)
+pub rest_goes : (before mid after : FilesView) (name : List ℕ) (plan : Plan) (i : PlanInputs)
     → ReadsSo before.told name PlanBegins (Ok (begun plan)) → IsEarlier before mid
-    → ReadsRest mid plan i → ReadsInputs before after name (record {
+    → (rest : ReadsRest mid plan i) → ReadsAll before after name (Ok rest.known)
+rest_goes before mid after name plan i h later rest = (
+  Ok (begun plan),
+  h,
+  rest.read before after later,
+)
+
+pub rest_read : (before mid : FilesView) (name : List ℕ) (plan : Plan) (i : PlanInputs)
+    → ReadsSo before.told name PlanBegins (Ok (begun plan)) → IsEarlier before mid
+    → ReadsRest mid plan i → ReadsInputs before.told name (record {
       plan = plan;
       target = i.target;
       passed_over = i.passed_over;
       script = i.script;
       files = i.files;
     })
-rest_read before mid after name plan i h later rest = record {
+rest_read before mid name plan i h later rest = record {
   known = rest.known;
   plan_is = rest.plan_is;
   holds = rest.holds;
-  read = (Ok (begun plan), h, rest.read before after later);
+  was_read = (
+    Ok (begun plan),
+    h,
+    walk_was before before (input_files plan) (begun plan) rest.known
+        (rest.read before before later),
+  );
 }

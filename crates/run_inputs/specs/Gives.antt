@@ -1,5 +1,5 @@
 -- What the bytes of a file give, where so much was known before.
-use Rattle.std.specs.Prelude.{◌≡◌, ℕ, List, Result, Ok, Err}
+use Rattle.std.specs.Prelude.{◌≡◌, ℕ, List, Result}
 use Rattle.run_outcomes.specs.declared.numbers.FileNo.{FileNo}
 use Rattle.run_outcomes.specs.declared.faults.Fault.{Fault}
 use Rattle.run_inputs.specs.InputFiles.{Kind, TheConfiguration, TheScript, TheCapsules, InputFile}

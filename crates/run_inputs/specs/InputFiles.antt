@@ -3,7 +3,7 @@ use Rattle.std.specs.Prelude.{ℕ, ◌+◌, ◌==◌, if◌then◌else◌, List,
 use Rattle.plan_files.specs.declared.items.Plan.{Plan}
 use Rattle.plan_files.specs.declared.items.QueueLine.{QueueLine}
 use Rattle.run_outcomes.specs.declared.numbers.FileNo.{FileNo}
-use Rattle.run_outcomes.specs.declared.numbers.TheConstants.{PLAN, CONFIG, SCRIPT, JOURNAL}
+use Rattle.run_outcomes.specs.declared.numbers.TheConstants.{CONFIG, SCRIPT, JOURNAL}
 use Rattle.run_outcomes.specs.Numbers.{capsules_no, responses_no}
 
 -- what is read of a file that a plan names

@@ -1,14 +1,12 @@
 -- What was read of the files of a run, and what told files give.
-use Rattle.std.specs.Prelude.{◌≡◌, ◌⊎◌, ℕ, false, List, Option, Some, None, Result, Ok, Err}
+use Rattle.std.specs.Prelude.{◌≡◌, ℕ, false, List, Some, Result, Ok, Err}
 use Rattle.plan_files.specs.declared.items.Plan.{Plan}
 use Rattle.run_outcomes.specs.declared.numbers.FileNo.{FileNo}
-use Rattle.run_outcomes.specs.declared.numbers.TheConstants.{PLAN}
 use Rattle.run_outcomes.specs.declared.faults.Fault.{Fault}
 use Rattle.run_outcomes.specs.declared.faults.Fault.TheVariants as fault
 use Rattle.run_outcomes.specs.Outsides.{Told, HoldsOf, FilesView, FailedCall}
 use Rattle.run_inputs.specs.InputFiles.{InputFile, input_files}
 use Rattle.run_inputs.specs.Known.{Known, begun}
-use Rattle.run_inputs.specs.Gives.{PlanBegins}
 use Rattle.run_inputs.specs.Walk.{Walk, WalkAll}
 
 -- some bytes, which the name holds where that is told, give this
@@ -17,6 +15,11 @@ pub record ReadsSo (told : Told) (name : List ℕ) (gives : List ℕ → Result 
   pub bytes : List ℕ
   pub held : HoldsOf told name bytes
   pub is : gives bytes r
+
+-- a file was read and gave this
+abbrev pub WasRead : Told → FileNo → List ℕ → (List ℕ → Result Known Fault → Type 0)
+    → Result Known Fault → Type 0
+WasRead told file name gives r = ReadsSo told name gives r
 
 -- What came of reading this file: what its bytes give, a first bad place, a passed limit and a
 -- refused edit among it; a read that failed, the last call on the files; or want of memory.
@@ -41,12 +44,13 @@ ReadsFiles before after files s r = Walk (Reading before after) files s r
 abbrev pub ReadsAll : FilesView → FilesView → List ℕ → Result Known Fault → Type 0
 ReadsAll before after name r = WalkAll (Reading before after) name r
 
--- Reading ended by this fault: of the plan, or, where that was read, of a file that it names.
-abbrev pub StopsBy : FilesView → FilesView → List ℕ → Option Plan → Fault → Type 0
-StopsBy before after name None f = Reading before after PLAN name PlanBegins (Err f)
-StopsBy before after name (Some plan) f =
-    Reading before after PLAN name PlanBegins (Ok (begun plan))
-    × ReadsFiles before after (input_files plan) (begun plan) (Err f)
+-- the files that a plan names were read, and gave this
+abbrev pub RestWasRead : Told → Plan → Known → Type 0
+RestWasRead told plan s = Walk (WasRead told) (input_files plan) (begun plan) (Ok s)
+
+-- all files of a run were read, and gave this
+abbrev pub AllWasRead : Told → List ℕ → Known → Type 0
+AllWasRead told name s = WalkAll (WasRead told) name (Ok s)
 
 -- ---- what files tell
 -- the name tells its bytes, and they give this

@@ -1,6 +1,6 @@
 -- What a run has in hand once its files were read.
 use Rattle.std.specs.Prelude.{◌≡◌, ◌≤◌, ◌⊎◌, ℕ, List, map, length, All, Result, Ok, Err, IfErr}
-use Rattle.plan_files.specs.declared.capsules.TheConstants.{MAX_CAPSULES, MAX_OUTPUT}
+use Rattle.plan_files.specs.declared.capsules.TheConstants.{MAX_CAPSULES}
 use Rattle.plan_files.specs.Capsules.{Capsule, IsWholeIn, capsules_in}
 use Rattle.plan_files.specs.Rooms.{room_of}
 use Rattle.run_transcript.specs.declared.capsule_files.CapsuleFile.{CapsuleFile}
@@ -10,11 +10,12 @@ use Rattle.run_inputs.specs.declared.inputs.PlanInputs.{PlanInputs}
 use Rattle.run_inputs.specs.Known.{begun}
 use Rattle.run_inputs.specs.InputFiles.{input_files}
 use Rattle.run_inputs.specs.Stages.{ReadOn}
-use Rattle.run_inputs.specs.Reading.{ReadsAll, FilesTell}
+use Rattle.run_inputs.specs.Reading.{RestWasRead, AllWasRead, ReadsAll, FilesTell}
 use Rattle.run_outside.specs.Outside.{Rose}
-use Rattle.run_outcomes.specs.Outsides.{FilesView}
+use Rattle.run_outcomes.specs.Outsides.{Told, FilesView}
 use Rattle.run_outcomes.specs.declared.faults.Fault.{Fault}
 use Rattle.run_outcomes.specs.declared.faults.Fault.TheVariants as fault
+use Rattle.run_transcript.specs.Runs.{Run}
 use Rattle.run_transcript.specs.declared.scripts.ScriptEdit.{ScriptEdit}
 use Rattle.plan_files.specs.declared.items.Plan.{Plan}
 use Rattle.tree_target.specs.Kept.{Kept}
@@ -49,14 +50,25 @@ pub record ReadsRest (now : FilesView) (plan : Plan) (i : PlanInputs) : Type 0 w
   pub known : Known
   pub plan_is : known.plan ≡ plan
   pub holds : HoldsRest i known
+  pub was_read : RestWasRead now.told plan known
   pub read : ReadOn now (input_files plan) (begun plan) known
 
 -- the plan of this name, and the files that it names, gave what the program has in hand
-pub record ReadsInputs (before after : FilesView) (name : List ℕ) (i : Inputs) : Type 0 where
+pub record ReadsInputs (told : Told) (name : List ℕ) (i : Inputs) : Type 0 where
   pub known : Known
   pub plan_is : known.plan ≡ i.plan
   pub holds : HoldsInputs i known
-  pub read : ReadsAll before after name (Ok known)
+  pub was_read : AllWasRead told name known
+
+-- plan, start, script and capsules of a run are what its files gave when they were read
+pub record IsRead (told : Told) (name : List ℕ) (run : Run) : Type 0 where
+  pub known : Known
+  pub was_read : AllWasRead told name known
+  pub plan : run.plan ≡ known.plan
+  pub start : run.start ≡ known.start
+  pub passed_over : run.passed_over ≡ known.passed_over
+  pub script : run.script ≡ known.script
+  pub files : run.files ≡ known.files
 
 -- ---- what told files settle
 

@@ -3,6 +3,7 @@ ghost use Rattle.std.specs.Prelude.{◌≡◌, ◌≤◌, ℕ, All, IfErr, IfOk,
 ghost use Rattle.link_rules.specs.Table.{is_fitting};
 ghost use Rattle.script_lines.specs.declared.lines.TheConstants.{MAX_LINES};
 ghost use Rattle.tree_target.specs.Kept.{IsIdle};
+ghost use Rattle.run_outcomes.specs.Outsides.{told_by};
 ghost use Rattle.run_inputs.specs.InputFiles.{input_files};
 ghost use Rattle.run_inputs.specs.Known.{begun};
 ghost use Rattle.run_inputs.specs.Planned.{IsPlanned};
@@ -105,9 +106,7 @@ pub fn read_plan_inputs<F: Files>(
 /// order of reading, with the number of its file; `ReadFault` where a read failed, and then that
 /// was the last call on the files; or want of memory.
 pub fn read_inputs<F: Files>(alloc: Global, name: &str, files: &mut F) -> Result<Inputs, Fault>
-    ensures read { IfOk result (λ i. ReadsInputs
-        (seen (F.tells files.old) (F.told files.old) (F.faults files.old) (F.last files.old))
-        (seen (F.tells files.new) (F.told files.new) (F.faults files.new) (F.last files.new))
+    ensures read { IfOk result (λ i. ReadsInputs (told_by (F.tells files.old) (F.told files.old))
         name.now i) }
     ensures refused { IfErr result (λ f. ReadsAll
         (seen (F.tells files.old) (F.told files.old) (F.faults files.old) (F.last files.old))

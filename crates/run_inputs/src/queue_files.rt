@@ -199,14 +199,24 @@ mod tests {
 
     // What a file of so many zeros gives after so many bytes and so much room: a passed limit with
     // its count, or the offset of a cut capsule, or the bytes and the room of all.
-    fn counts(alloc: Global, before: u64, room: u64, len: usize) -> Result<(&'static str, u64), Fail>
+    fn counts(
+        alloc: Global,
+        before: u64,
+        room: u64,
+        len: usize,
+    ) -> Result<(&'static str, u64), Fail>
         requires { before ≤ MAX_ALL_INPUT × room ≤ MAX_ALL_OUTPUT × len ≤ MAX_QUEUE_BYTES }
     {
         let bytes = vec![in alloc; 0; len]?;
         match count_capsules(alloc, capsules_number(2), before, room, bytes) {
             Ok(counted) => Ok(("read", counted.input + counted.output)),
             Err(Fault::Limit { what, count, .. }) => Ok((what.word(), count)),
-            Err(Fault::Malformed { at: At::Offset(offset), .. }) => Ok(("offset", offset)),
+            Err(
+                Fault::Malformed {
+                    at: At::Offset(offset),
+                    ..
+                },
+            ) => Ok(("offset", offset)),
             Err(_) => Ok(("other", 0)),
         }
     }

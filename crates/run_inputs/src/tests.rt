@@ -1,7 +1,7 @@
 // What is read of files in memory, and each first fault with its place.
-use crate::{Inputs, read_inputs};
-use plan_files::MemFiles;
-use run_outcomes::{At, Fault};
+use crate::{Inputs, file_name, read_inputs};
+use plan_files::{MemFiles, read_plan};
+use run_outcomes::{At, Fault, FileNo};
 use std::alloc::{AllocError, Global};
 use std::test::Fail;
 
@@ -66,15 +66,18 @@ fn told(alloc: Global, named: &[(&str, &[u8])], fails: &[u64]) -> Result<String,
 
 const SIMPLE: &[u8] = b"nvmet-plan 1\nsimple\ndisk /dev/ram0 9 16\nqueue 1 q1 r1\n";
 
-const PLAN: &[u8] = b"nvmet-plan 1\ndisk /dev/ram0 9 16\nconfig c\nscript s\njournal j\nqueue 1 q1 r1\nqueue 1 q2 r2\n";
+const PLAN: &[u8] =
+    b"nvmet-plan 1\ndisk /dev/ram0 9 16\nconfig c\nscript s\njournal j\nqueue 1 q1 r1\nqueue 1 q2 r2\n";
 
 const NO_SCRIPT: &[u8] = b"nvmet-plan 1\nconfig c\njournal j\n";
 
 // The example of nvmetcli's JSON: four of its members say nothing here.
-const EXAMPLE: &[u8] = b"{\"hosts\":[{\"nqn\":\"hostnqn\"}],\"ports\":[{\"addr\":{\"adrfam\":\"\",\"traddr\":\"\",\"treq\":\"not specified\",\"trsvcid\":\"\",\"trtype\":\"loop\"},\"param\":{\"inline_data_size\":\"16384\"},\"portid\":1,\"referrals\":[],\"subsystems\":[\"testnqn\"]}],\"subsystems\":[{\"allowed_hosts\":[\"hostnqn\"],\"attr\":{\"allow_any_host\":\"0\",\"cntlid_max\":\"65519\",\"cntlid_min\":\"1\",\"model\":\"Linux\",\"serial\":\"5aefdbbc0a7be8e7\",\"version\":\"1.3\"},\"namespaces\":[{\"ana_grpid\":1,\"device\":{\"nguid\":\"ef90689c-6c46-d44c-89c1-4067801309a8\",\"path\":\"/dev/ram0\"},\"enable\":1,\"nsid\":1}],\"nqn\":\"testnqn\"}]}";
+const EXAMPLE: &[u8] =
+    b"{\"hosts\":[{\"nqn\":\"hostnqn\"}],\"ports\":[{\"addr\":{\"adrfam\":\"\",\"traddr\":\"\",\"treq\":\"not specified\",\"trsvcid\":\"\",\"trtype\":\"loop\"},\"param\":{\"inline_data_size\":\"16384\"},\"portid\":1,\"referrals\":[],\"subsystems\":[\"testnqn\"]}],\"subsystems\":[{\"allowed_hosts\":[\"hostnqn\"],\"attr\":{\"allow_any_host\":\"0\",\"cntlid_max\":\"65519\",\"cntlid_min\":\"1\",\"model\":\"Linux\",\"serial\":\"5aefdbbc0a7be8e7\",\"version\":\"1.3\"},\"namespaces\":[{\"ana_grpid\":1,\"device\":{\"nguid\":\"ef90689c-6c46-d44c-89c1-4067801309a8\",\"path\":\"/dev/ram0\"},\"enable\":1,\"nsid\":1}],\"nqn\":\"testnqn\"}]}";
 
 // Namespace 1 is enabled by the fourth edit, on a disk that isn't there.
-const NO_DISK: &[u8] = b"{\"subsystems\":[{\"nqn\":\"s\",\"namespaces\":[{\"nsid\":1,\"device\":{\"path\":\"/dev/none\"},\"enable\":1}]}]}";
+const NO_DISK: &[u8] =
+    b"{\"subsystems\":[{\"nqn\":\"s\",\"namespaces\":[{\"nsid\":1,\"device\":{\"path\":\"/dev/none\"},\"enable\":1}]}]}";
 
 // Line 5 has byte 1Fh, but line 3 says no edit.
 const SCRIPT: &[u8] = b"mkdir hosts/h\n#\nmkdir host/h\nmkdir hosts/i\nmkdir \x1f\n";
@@ -96,9 +99,30 @@ const CUT_LATER: &[u8] = &[0; 65];
 const ONE: &[u8] = &[0; 64];
 
 const ROWS: &[Row] = &[
-    (SIMPLE, b"", b"", b"", b"", "queues 1 edits 0 files 1 passed 0"),
-    (SIMPLE, b"", b"", ONE, b"", "queues 1 edits 0 files 1 passed 0"),
-    (PLAN, b"{}", b"", b"", b"", "queues 2 edits 0 files 2 passed 0"),
+    (
+        SIMPLE,
+        b"",
+        b"",
+        b"",
+        b"",
+        "queues 1 edits 0 files 1 passed 0",
+    ),
+    (
+        SIMPLE,
+        b"",
+        b"",
+        ONE,
+        b"",
+        "queues 1 edits 0 files 1 passed 0",
+    ),
+    (
+        PLAN,
+        b"{}",
+        b"",
+        b"",
+        b"",
+        "queues 2 edits 0 files 2 passed 0",
+    ),
     (
         PLAN,
         EXAMPLE,
@@ -107,12 +131,40 @@ const ROWS: &[Row] = &[
         b"",
         "queues 2 edits 1 files 2 passed 4",
     ),
-    (NO_SCRIPT, b"{\"x\":1}", SCRIPT, CUT, CUT, "queues 0 edits 0 files 0 passed 1"),
+    (
+        NO_SCRIPT,
+        b"{\"x\":1}",
+        SCRIPT,
+        CUT,
+        CUT,
+        "queues 0 edits 0 files 0 passed 1",
+    ),
     (b"", b"", b"", b"", b"", "0 line 1"),
-    (b"nvmet-plan 1\nqueue 1 a b\n", b"[", b"", b"", b"", "0 line 3"),
+    (
+        b"nvmet-plan 1\nqueue 1 a b\n",
+        b"[",
+        b"",
+        b"",
+        b"",
+        "0 line 3",
+    ),
     (PLAN, b"[1", SCRIPT, CUT, CUT, "1 json"),
-    (PLAN, b"{\"hosts\":[{}]}", SCRIPT, CUT, CUT, "1 member /hosts/0/nqn"),
-    (PLAN, b"{\"ports\":[{\"portid\":65536}]}", b"", b"", b"", "1 member /ports/0/portid"),
+    (
+        PLAN,
+        b"{\"hosts\":[{}]}",
+        SCRIPT,
+        CUT,
+        CUT,
+        "1 member /hosts/0/nqn",
+    ),
+    (
+        PLAN,
+        b"{\"ports\":[{\"portid\":65536}]}",
+        b"",
+        b"",
+        b"",
+        "1 member /ports/0/portid",
+    ),
     (PLAN, b"[]", b"", b"", b"", "1 member "),
     (PLAN, NO_DISK, SCRIPT, CUT, CUT, "edit 4 ENOENT"),
     (PLAN, b"{}", SCRIPT, CUT, CUT, "2 line 3"),
@@ -202,6 +254,33 @@ fn limits_at_both_sides(rt: HostRuntime) -> Result<(), Fail> {
         ];
         let told = told(alloc, &named, &[])?;
         assert_eq!(rt; told.as_str(), *want);
+    }
+    Ok(())
+}
+
+// The number of a file, and its name.
+const NAMES: &[(u32, &str)] = &[
+    (0, "p"),
+    (1, "c"),
+    (2, "s"),
+    (3, "j"),
+    (4, "q1"),
+    (5, "r1"),
+    (6, "q2"),
+    (7, "r2"),
+    (8, "p"),
+];
+
+#[test]
+fn names_by_number(rt: HostRuntime) -> Result<(), Fail> {
+    let Ok(plan) = read_plan(rt.alloc(), PLAN) else {
+        return Err("no plan".into());
+    };
+    for (number, want) in NAMES {
+        if plan.queues.len() <= 31 {
+            let name = file_name(b"p", &plan, FileNo(*number));
+            assert!(rt; name == want.as_bytes());
+        }
     }
     Ok(())
 }

@@ -1,5 +1,4 @@
-use Rattle.run_inputs.proofs.OneFile.{earlier_again}
-use Rattle.run_inputs.proofs.Walking.{plan_start_stops, plan_script_stops, plan_queues_stop, plan_reads_all}
+use Rattle.run_inputs.proofs.Walking.{plan_start_stops, plan_script_stops, plan_queues_stop, plan_reads_all, rest_was}
 use Rattle.run_inputs.proofs.inputs.read_plan_inputs.Goals as goal
 
 pub returns-in-Err-clause-refused : goal.returns-in-Err-clause-refused
@@ -21,7 +20,13 @@ returns-in-Ok-read_queue_files-clause-read g c =
     c.in-Ok-read_script_file.ensures.later c.in-Ok.ensures.read
     c.in-Ok-read_script_file.ensures.read
     (rw c.as_slice.ensures at c.in-Ok-read_queue_files.ensures.read) in
-    record { known = a.known; plan_is = a.plan_is; holds = a.holds; read = a.read }
+    record {
+      known = a.known;
+      plan_is = a.plan_is;
+      holds = a.holds;
+      was_read = rest_was _ c.args.plan.now a.known a.read;
+      read = a.read;
+    }
 
 pub returns-in-Err-read_queue_files-clause-refused :
     goal.returns-in-Err-read_queue_files-clause-refused
