@@ -1,0 +1,5 @@
+pub mod Fields
+pub mod Heads
+pub mod Printing
+pub mod Listing
+pub mod Fronting
