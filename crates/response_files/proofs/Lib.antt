@@ -3,3 +3,9 @@ pub mod Heads
 pub mod Printing
 pub mod Listing
 pub mod Fronting
+pub mod Numbers
+pub mod Wording
+pub mod Calling
+pub mod Saying
+pub mod Rows
+pub mod Telling

@@ -4,6 +4,9 @@
 //! definitions by which runs print them. A completion in a record is that of NVMe Base 2.0, 3.3.3.2.
 #![tactic(auto)]
 
+mod journal;
+mod journal_lines;
 mod responses;
 
+pub use journal::{Journal, JournalError, read_journal};
 pub use responses::{Record, RecordError, read_responses};
