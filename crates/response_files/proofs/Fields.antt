@@ -34,8 +34,7 @@ fields_read pre at end (f ∷ fields) rest len g fit =
     ) in
     let regroup : (pre ++ spelled f.size f.value) ++ more
     ≡ pre ++ (spelled_fields (f ∷ fields) ++ rest) =
-    append_assoc pre (spelled f.size f.value) more ∙ ap (λ (l : List ℕ). pre ++ l) (sym whole) in
-    (
+    append_assoc pre (spelled f.size f.value) more ∙ ap (λ (l : List ℕ). pre ++ l) (sym whole) in (
       value,
       subst (λ (l : List ℕ). StandIn l fields) regroup
           (fields_read (pre ++ spelled f.size f.value) (at + f.size) end fields rest len' g.1

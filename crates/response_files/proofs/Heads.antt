@@ -1,7 +1,7 @@
 -- The head that 32 bytes say.
-use Rattle.std.proofs.Common.{◌≡◌, ◌≢◌, ◌<◌, ◌≤◌, ◌⊎◌, ◌^◌, ℕ, ◌+◌, Bool, true, false, cond, ◌&&◌, ◌||◌, eqb, List, length, take, drop, Option, Some, None, refl, sym, ap, subst, ◌∙◌, arith, inl, inr}
+use Rattle.std.proofs.Common.{◌≡◌, ◌≢◌, ◌⊎◌, ℕ, Bool, true, false, cond, ◌&&◌, ◌||◌, eqb, List, take, drop, Option, Some, None, refl, sym, ap, subst, ◌∙◌, arith, inl, inr}
 use Rattle.std.specs.Option.{option_and_then}
-use Rattle.std.proofs.lemmas.Bool.{eqb-true, and_parts, and_cases, or_parts, cases_Bool}
+use Rattle.std.proofs.lemmas.Bool.{eqb-true, and_parts, and_cases, or_parts}
 use Rattle.std.proofs.lemmas.Option.{cond_some}
 use Rattle.sqe_cqe.specs.Fields.{field}
 use Rattle.sqe_cqe.specs.Cqe.{cqe_of}

@@ -77,13 +77,12 @@ tells_fault : (at : ℕ) (bytes : List ℕ) (e : RecordError) → 0 < length byt
 unfolding Tells
 tells_fault at bytes errors.Memory some h = absurd (memory_not (fault_was at bytes errors.Memory
     h).0) where
-  memory_not : errors.Memory ≡ errors.Malformed at → ⊥
-  memory_not e = cc
+      memory_not : errors.Memory ≡ errors.Malformed at → ⊥
+      memory_not e = cc
 tells_fault at bytes (errors.Malformed o) some h =
     let was = fault_was at bytes (errors.Malformed o) h in
     let same : errors.Malformed o ≡ errors.Malformed at = was.0 in
-    let offset : o ≡ at = cc in
-    (
+    let offset : o ≡ at = cc in (
       0,
       omega (arith, offset),
       record {
@@ -109,18 +108,18 @@ tells (suc left) at (b ∷ bytes) small le =
     by_next (next_response at (b ∷ bytes)) refl (λ r p. tells left (at + width r)
     (drop (width r) (b ∷ bytes)) (small_drop (width r) (b ∷ bytes) small)
     (omega (arith, le, length-drop (width r) (b ∷ bytes), p.fits))) where
-  by_next : (x : Result Response RecordError) → next_response at (b ∷ bytes) ≡ x
-      → ((r : Response) → Printed (b ∷ bytes) r → Tells (at + width r)
-      (drop (width r) (b ∷ bytes)) (responses_from left (at + width r)
-      (drop (width r) (b ∷ bytes))))
-      → Tells at (b ∷ bytes) (responses_from (suc left) at (b ∷ bytes))
-  by_next (Ok r) h rest =
-      let p = read_was at (b ∷ bytes) r small h in
-      subst (Tells at (b ∷ bytes)) (sym (step_ok left at (b ∷ bytes) r (omega arith) h))
-      (tells_more left at (b ∷ bytes) r _ p (rest r p))
-  by_next (Err e) h rest =
-      subst (Tells at (b ∷ bytes)) (sym (step_err left at (b ∷ bytes) e (omega arith) h))
-      (tells_fault at (b ∷ bytes) e (omega arith) h)
+      by_next : (x : Result Response RecordError) → next_response at (b ∷ bytes) ≡ x
+          → ((r : Response) → Printed (b ∷ bytes) r → Tells (at + width r)
+          (drop (width r) (b ∷ bytes)) (responses_from left (at + width r)
+          (drop (width r) (b ∷ bytes))))
+          → Tells at (b ∷ bytes) (responses_from (suc left) at (b ∷ bytes))
+      by_next (Ok r) h rest =
+          let p = read_was at (b ∷ bytes) r small h in
+          subst (Tells at (b ∷ bytes)) (sym (step_ok left at (b ∷ bytes) r (omega arith) h))
+          (tells_more left at (b ∷ bytes) r _ p (rest r p))
+      by_next (Err e) h rest =
+          subst (Tells at (b ∷ bytes)) (sym (step_err left at (b ∷ bytes) e (omega arith) h))
+          (tells_fault at (b ∷ bytes) e (omega arith) h)
 
 -- ---- what is printed is read
 long_record : (r : Response) (more : List ℕ) → IsResponse r

@@ -1,11 +1,10 @@
 -- A record that was printed is read again, and what is read was printed so.
-use Rattle.std.proofs.Common.{◌≡◌, ◌≢◌, ◌≤◌, ◌<◌, ◌⊎◌, ◌^◌, ℕ, zero, suc, ◌+◌, Bool, true, false, cond, ltb, ◌&&◌, ◌||◌, List, [], ◌∷◌, ◌++◌, length, take, drop, Option, Some, None, Result, Ok, Err, refl, sym, ap, ap₂, subst, ◌∙◌, append_assoc, arith, le-ltb, lt-ltb, ltb-false, ltb-true, length-append, length-drop, length-take-le, take-append-drop, inl, inr}
+use Rattle.std.proofs.Common.{◌≡◌, ◌≤◌, ◌<◌, ◌⊎◌, ◌^◌, ℕ, ◌+◌, Bool, true, false, cond, ltb, List, [], ◌++◌, length, take, drop, Option, Some, None, Result, Ok, Err, refl, sym, ap, ap₂, subst, ◌∙◌, append_assoc, arith, le-ltb, lt-ltb, ltb-false, ltb-true, length-append, length-drop, length-take-le, take-append-drop, inl, inr}
 use Rattle.std.proofs.lemmas.List.{drop_at, drop-drop, take_at}
 use Rattle.std.proofs.lemmas.Bool.{cases_lt}
 use Rattle.byteorder.specs.Numbers.{little_from-lt}
-use Rattle.sqe_cqe.specs.Fields.{Field, field, spelled_fields, StandIn, IsGapless}
+use Rattle.sqe_cqe.specs.Fields.{field, spelled_fields, StandIn, IsGapless}
 use Rattle.sqe_cqe.specs.Cqe.{cqe_of, cqe_bytes}
-use Rattle.sqe_cqe.specs.declared.cqe.Cqe.{Cqe}
 use Rattle.sqe_cqe.proofs.Again.{spelled_fields-again, cqe-again}
 use Rattle.run_records.specs.Records.{answer_code, kind_code, call_fields, call_bytes, record_bytes}
 use Rattle.run_records.specs.declared.records.Kind.{Kind}
@@ -13,7 +12,7 @@ use Rattle.run_records.specs.declared.records.Kind.TheVariants.{Submit, Execute,
 use Rattle.run_records.specs.declared.records.Answer.{Answer}
 use Rattle.run_records.specs.declared.records.Answer.TheVariants.{Held, Answered, Waiting, NoEvent}
 use Rattle.run_records.specs.declared.records.Head.{Head}
-use Rattle.response_files.specs.Responses.{Response, response_bytes, IsCompletion, IsHead, IsResponse, IsMalformed, is_blank}
+use Rattle.response_files.specs.Responses.{Response, response_bytes, IsCompletion, IsHead, IsResponse, IsMalformed}
 use Rattle.response_files.specs.ResponseReading.{head_in, with_data, next_response, width}
 use Rattle.response_files.specs.declared.responses.RecordError.{RecordError}
 use Rattle.response_files.specs.declared.responses.RecordError.TheVariants as errors
@@ -65,9 +64,25 @@ head_was_printed : (h : Head) (more : List ℕ) → IsHead h
 head_was_printed h more is =
     let tail : List ℕ = tail_of h more in
     let b : List ℕ = spelled_fields (call_fields h) ++ tail in
-    let fit : AreFitting (call_fields h) =
-    (is.place, (kind_small h.kind, (answer_small h.answer, (omega arith, (is.number, (is.len,
-    tt)))))) in
+    let fit : AreFitting (call_fields h) = (
+      is.place,
+      (
+        kind_small h.kind,
+        (
+          answer_small h.answer,
+          (
+            omega arith,
+            (
+              is.number,
+              (
+                is.len,
+                tt,
+              ),
+            ),
+          ),
+        ),
+      ),
+    ) in
     let s : StandIn b (call_fields h) = fields_read [] 0 16 (call_fields h) tail refl (gapless h)
     fit in
     let after : drop 16 b ≡ tail = drop_at (spelled_fields (call_fields h)) tail 16 (length_call h)
@@ -204,9 +219,9 @@ read_with at bytes r None small eo e = absurd cc
 read_with at bytes r (Some h) small eo e = by_test (ltb (length bytes) (32 + h.len)) refl e where
   by_test : (t : Bool) → ltb (length bytes) (32 + h.len) ≡ t
       → ◌≡◌ {A = Result Response RecordError} (cond t (Err (errors.Malformed at)) (Ok (record {
-    head = h;
-    payload = take h.len (drop 32 bytes);
-  }))) (Ok r) → Printed bytes r
+        head = h;
+        payload = take h.len (drop 32 bytes);
+      }))) (Ok r) → Printed bytes r
   by_test true et e = absurd cc
   by_test false et e =
       let same : record { head = h; payload = take h.len (drop 32 bytes) } ≡ r = cc in
@@ -230,16 +245,16 @@ unfolding with_data
 fault_with at bytes e None eo h = (cc, record { why = inr (inr (unread_faulty bytes eo)) })
 fault_with at bytes e (Some head) eo h =
     by_test (ltb (length bytes) (32 + head.len)) refl h where
-  by_test : (t : Bool) → ltb (length bytes) (32 + head.len) ≡ t
-      → ◌≡◌ {A = Result Response RecordError} (cond t (Err (errors.Malformed at)) (Ok (record {
-    head = head;
-    payload = take head.len (drop 32 bytes);
-  }))) (Err e) → (e ≡ errors.Malformed at) × IsMalformed bytes
-  by_test true et h =
-      let lt : length bytes < 32 + head.len = ltb-true _ _ et in
-      let len : head.len ≡ field 12 4 bytes = (head_stands bytes head eo).len in
-      (cc, record { why = inr (inl (omega (arith, lt, len))) })
-  by_test false et h = absurd cc
+      by_test : (t : Bool) → ltb (length bytes) (32 + head.len) ≡ t
+          → ◌≡◌ {A = Result Response RecordError} (cond t (Err (errors.Malformed at)) (Ok (record {
+            head = head;
+            payload = take head.len (drop 32 bytes);
+          }))) (Err e) → (e ≡ errors.Malformed at) × IsMalformed bytes
+      by_test true et h =
+          let lt : length bytes < 32 + head.len = ltb-true _ _ et in
+          let len : head.len ≡ field 12 4 bytes = (head_stands bytes head eo).len in
+          (cc, record { why = inr (inl (omega (arith, lt, len))) })
+      by_test false et h = absurd cc
 
 pub fault_was : (at : ℕ) (bytes : List ℕ) (e : RecordError) → next_response at bytes ≡ Err e
     → (e ≡ errors.Malformed at) × IsMalformed bytes

@@ -1,16 +1,14 @@
 -- A line of a journal says a call exactly where it is the call's words, with a space between each two.
-use Rattle.std.proofs.Common.{◌≡◌, ◌⊎◌, ◌<◌, ◌≤◌, ◌+◌, ◌%◌, ◌^◌, ℕ, Bool, true, false, cond, ◌&&◌, eqb, ltb, List, [], ◌∷◌, ◌++◌, Option, Some, None, refl, sym, ap, ◌∙◌, append_assoc, arith, inl, inr, lit≤}
+use Rattle.std.proofs.Common.{◌≡◌, ◌⊎◌, ◌<◌, ◌≤◌, ◌+◌, ◌%◌, ◌^◌, ℕ, Bool, true, false, cond, eqb, ltb, List, [], ◌∷◌, ◌++◌, Option, Some, None, refl, sym, ap, ◌∙◌, append_assoc, arith, inl, inr, lit≤}
 use Rattle.std.specs.Prelude.{codes}
 use Rattle.std.specs.Fmt.{decimal}
-use Rattle.std.specs.List.{list_all, join_with_byte, slice_split, find, AllByRecursion}
+use Rattle.std.specs.List.{list_all, join_with_byte, AllByRecursion}
 use Rattle.std.specs.Option.{option_and_then}
 use Rattle.std.specs.Str.{bytes_eq}
 use Rattle.std.proofs.lemmas.Bool.{and_parts, ltb-true, lt-ltb, ne_eqb}
-use Rattle.std.proofs.lemmas.Option.{cond_some}
 use Rattle.std.proofs.lemmas.List.Splits.{join_with_byte-slice_split}
 use Rattle.std.proofs.lemmas.Slice.Eq.{bytes_eq-Decides}
 use Rattle.std.proofs.lemmas.Fmt.{decimal_by_steps}
-use Rattle.configfs_tree.specs.declared.edits.Errno.{Errno}
 use Rattle.configfs_tree.specs.declared.edits.Errno.TheVariants.{EPERM, ENOENT, EACCES, EBUSY, EEXIST, EINVAL, ENOTEMPTY, ENOSPC}
 use Rattle.text_lines.specs.Lines.{words_of}
 use Rattle.journal_text.specs.Text.{answer_word, line_text}
@@ -46,8 +44,8 @@ pub above_decimal : (n : ℕ) → n < 2 ^ 32 → AllAbove 32 (decimal n)
 above_decimal n h = decimal_by_steps (λ m ds. AllAbove 32 ds) (λ m few. digit m)
     (λ m ds more above. above_append 32 ds ((48 + m % 10) ∷ []) above (digit (m % 10))) n
     (omega arith) where
-  digit : (m : ℕ) → AllAbove 32 ((48 + m) ∷ [])
-  digit m = rw (lt-ltb 32 (48 + m) (omega arith)) refl
+      digit : (m : ℕ) → AllAbove 32 ((48 + m) ∷ [])
+      digit m = rw (lt-ltb 32 (48 + m) (omega arith)) refl
 
 pub above_answer : (a : Answer) → AllAbove 32 (answer_word a)
 above_answer Accepted = refl
@@ -184,9 +182,9 @@ done_was kind place line call e =
             numbered = (np.1, nl.1);
           })
     ] where
-  said : {x : JournalLine} → x ≡ call → IsSaid (kind ∷ place ∷ line ∷ []) x
-      → IsSaid (kind ∷ place ∷ line ∷ []) call
-  said {x} same s = rw (← same) s
+      said : {x : JournalLine} → x ≡ call → IsSaid (kind ∷ place ∷ line ∷ []) x
+          → IsSaid (kind ∷ place ∷ line ∷ []) call
+      said {x} same s = rw (← same) s
 
 edit_was : (kind place line answer : List ℕ) (call : JournalLine)
     → edit_said kind place line answer ≡ Some call
@@ -211,9 +209,9 @@ edit_was kind place line answer call e =
             numbered = (np.1, nl.1);
           })
     ] where
-  said : {x : JournalLine} → x ≡ call → IsSaid (kind ∷ place ∷ line ∷ answer ∷ []) x
-      → IsSaid (kind ∷ place ∷ line ∷ answer ∷ []) call
-  said {x} same s = rw (← same) s
+      said : {x : JournalLine} → x ≡ call → IsSaid (kind ∷ place ∷ line ∷ answer ∷ []) x
+          → IsSaid (kind ∷ place ∷ line ∷ answer ∷ []) call
+      said {x} same s = rw (← same) s
 
 said_was : (words : List (List ℕ)) (call : JournalLine) → call_said words ≡ Some call
     → IsSaid words call
@@ -227,8 +225,7 @@ said_was (kind ∷ place ∷ line ∷ answer ∷ more ∷ rest) call e = absurd 
 pub call_was : (line : List ℕ) (call : JournalLine) → call_in line ≡ Some call
     → (line ≡ call_row call) × IsNumbered call
 call_was line call e =
-    let s = said_was (words_of line) call e in
-    (
+    let s = said_was (words_of line) call e in (
       sym (join_with_byte-slice_split 32 line) ∙ ap (λ (ws : List (List ℕ)). join_with_byte 32 ws)
           s.words_are,
       s.numbered,
@@ -268,16 +265,15 @@ places_words (kind ∷ number ∷ []) n e =
       | inl is ↦ let was = number_was number n is.1 in
           (two kind number (same_bytes kind (codes "places") is.0) was.0, was.1)
     ] where
-  two : (kind number : List ℕ) → kind ≡ codes "places" → number ≡ decimal n
-      → kind ∷ number ∷ [] ≡ codes "places" ∷ decimal n ∷ []
-  two kind number k e = rw (k, e) refl
+      two : (kind number : List ℕ) → kind ≡ codes "places" → number ≡ decimal n
+          → kind ∷ number ∷ [] ≡ codes "places" ∷ decimal n ∷ []
+      two kind number k e = rw (k, e) refl
 places_words (kind ∷ number ∷ more ∷ rest) n e = absurd (none_some n e)
 
 pub places_was : (line : List ℕ) (n : ℕ) → places_in line ≡ Some n
     → (line ≡ places_row n) × (n < 2 ^ 32)
 places_was line n e =
-    let was = places_words (words_of line) n e in
-    (
+    let was = places_words (words_of line) n e in (
       sym (join_with_byte-slice_split 32 line) ∙ ap (λ (ws : List (List ℕ)). join_with_byte 32 ws)
           was.0,
       was.1,

@@ -1,5 +1,5 @@
 -- What a journal that was read says, and its first bad line.
-use Rattle.std.proofs.Common.{◌≡◌, ◌≢◌, ◌⊎◌, ◌<◌, ◌≤◌, ◌+◌, ◌^◌, ℕ, zero, suc, Bool, true, false, cond, List, [], ◌∷◌, ◌++◌, length, map, Option, Some, None, Result, Ok, Err, refl, sym, ap, ap₂, subst, ◌∙◌, append_assoc, arith, length-append, inl, inr, lit<, lit≤}
+use Rattle.std.proofs.Common.{◌≡◌, ◌≢◌, ◌<◌, ◌+◌, ◌^◌, ℕ, zero, suc, Bool, true, false, cond, List, [], ◌∷◌, ◌++◌, length, map, Option, Some, None, Result, Ok, Err, refl, sym, ap, ap₂, subst, ◌∙◌, append_assoc, arith, inl, inr, lit<, lit≤}
 use Rattle.std.specs.Prelude.{codes, IfOk, IfErr}
 use Rattle.std.specs.Fmt.{decimal}
 use Rattle.std.specs.List.{flat_map, slice_get, AllByRecursion}
@@ -14,7 +14,7 @@ use Rattle.journal_text.specs.declared.lines.JournalLine.TheVariants.{Edit, Done
 use Rattle.response_files.specs.declared.journal.Journal.{Journal}
 use Rattle.response_files.specs.declared.journal.JournalError.{JournalError}
 use Rattle.response_files.specs.declared.journal.JournalError.TheVariants as errors
-use Rattle.response_files.specs.Journals.{IsNumbered, IsText, IsJournal, IsRow, IsWell, IsFirstBad}
+use Rattle.response_files.specs.Journals.{IsNumbered, IsText, IsJournal, IsWell, IsFirstBad}
 use Rattle.response_files.specs.JournalReading.{◌>>=◌, Gives, or_bad, call_in, places_in, calls_from, journal_after_head, journal_by, journal_in}
 use Rattle.response_files.proofs.Saying.{AllAbove, above_joined, above_less, above_decimal, above_answer, call_row, row_ended, call_was, call_again, places_row, places_was, places_again}
 use Rattle.response_files.proofs.Rows.{ended, IsLine, lines_joined, rows_cut}
@@ -47,11 +47,16 @@ calls_are_lines (call ∷ calls) all =
 
 rows_are_lines : (places : ℕ) (calls : List JournalLine) → places < 2 ^ 32
     → AllByRecursion IsNumbered calls → AllByRecursion IsLine (journal_rows places calls)
-rows_are_lines places calls small all =
-    (record { some = lit< tt; above = refl }, (record {
+rows_are_lines places calls small all = (
+  record { some = lit< tt; above = refl },
+  (
+    record {
       some = omega arith;
       above = above_less 32 10 (decimal places) (lit≤ tt) (above_decimal places small);
-    }, calls_are_lines calls all))
+    },
+    calls_are_lines calls all,
+  ),
+)
 
 calls_text : (calls : List JournalLine)
     → flat_map line_text calls ≡ ended (map call_row calls)
@@ -138,8 +143,8 @@ no_row line none row =
     (row.2 ∙ row_ended row.0) in
     let some : call_in line ≡ Some row.0 = ap call_in same ∙ call_again row.0 row.1 in
     none_is (sym none ∙ some) where
-  none_is : {x : JournalLine} → ◌≡◌ {A = Option JournalLine} None (Some x) → ⊥
-  none_is e = cc
+      none_is : {x : JournalLine} → ◌≡◌ {A = Option JournalLine} None (Some x) → ⊥
+      none_is e = cc
 
 bad_here : (n : ℕ) (line : List ℕ) (lines : List (List ℕ)) → call_in line ≡ None
     → IsBadCall n (line ∷ lines) n

@@ -1,4 +1,5 @@
--- The journal of a finished run: what its lines say, and its first bad line. Lines count from 1 in an error, from 0 here.
+-- The journal of a finished run: what its lines say, and its first bad line. Lines count from 1 in
+-- an error, from 0 here.
 use Rattle.std.specs.Prelude.{◌≡◌, ◌≤◌, ◌<◌, ◌⊎◌, ℕ, zero, suc, ◌+◌, ◌^◌, List, [], ◌∷◌, ◌++◌, codes, Option, Some, None}
 use Rattle.std.specs.Fmt.{decimal}
 use Rattle.std.specs.List.{AllByRecursion, slice_get}
@@ -25,8 +26,8 @@ pub record IsJournal (bytes : List ℕ) (j : Journal) : Type 0 where
 
 -- ---- bad lines
 
--- what the line k may be: the first is the head, the second says how many places the run has, each other one is a call of
--- the editor
+-- what the line k may be: the first is the head, the second says how many places the run has, each
+-- other one is a call of the editor
 abbrev pub IsRow : ℕ → List ℕ → Type 0
 IsRow zero line = line ≡ codes "nvmet-journal 1"
 IsRow (suc zero) line = (places : ℕ) × (places < 2 ^ 32)

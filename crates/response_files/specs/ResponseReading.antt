@@ -1,4 +1,5 @@
--- Reading a response file from its first byte on: its records, or the offset of the first that is malformed.
+-- Reading a response file from its first byte on: its records, or the offset of the first that is
+-- malformed.
 use Rattle.std.specs.Prelude.{ℕ, zero, suc, ◌+◌, ◌==◌, nat_lt, Bool, true, false, ◌&&◌, ◌||◌, if◌then◌else◌, List, [], ◌∷◌, length, take, drop, Option, Some, None, Result, Ok, Err}
 use Rattle.std.specs.Option.{option_and_then}
 use Rattle.text_lines.specs.Answers as answers

@@ -1,4 +1,5 @@
--- Response files: records one after another, and the first that is malformed. Offsets are in bytes, from 0.
+-- Response files: records one after another, and the first that is malformed. Offsets are in bytes,
+-- from 0.
 use Rattle.std.specs.Prelude.{◌≡◌, ◌≤◌, ◌<◌, ◌≢◌, ◌⊎◌, ℕ, ◌+◌, ◌^◌, ◌==◌, Bool, true, false, ◌&&◌, ◌||◌, List, [], ◌∷◌, ◌++◌, length, take, drop, map}
 use Rattle.std.specs.List.{flat_map, AllByRecursion}
 use Rattle.sqe_cqe.specs.Fields.{field}
@@ -59,8 +60,8 @@ pub record IsCompletion (c : Cqe) : Type 0 where
   pub cid : c.cid < 2 ^ 16
   pub status : c.status < 2 ^ 16
 
--- what a head may say: an answer that its call may have, no completion but where something was answered, and numbers that
--- fit their bytes
+-- what a head may say: an answer that its call may have, no completion but where something was
+-- answered, and numbers that fit their bytes
 pub record IsHead (h : Head) : Type 0 where
   pub may : may_answer h.kind h.answer ≡ true
   pub blank : (is_answered h.answer || is_blank h.cqe) ≡ true
@@ -87,9 +88,9 @@ IsCoded kind answer =
     (k : Kind) × (a : Answer) × (kind_code k ≡ kind) × (answer_code a ≡ answer)
     × (may_answer k a ≡ true)
 
--- Why no record begins here: fewer bytes are left than a head has, or than a head and the data that it announces; the
--- bytes between answer and number aren't zeros; kind and answer are no call with an answer that it may have; or there is
--- a completion though nothing was answered.
+-- Why no record begins here: fewer bytes are left than a head has, or than a head and the data that
+-- it announces; the bytes between answer and number aren't zeros; kind and answer are no call with an
+-- answer that it may have; or there is a completion though nothing was answered.
 pub record IsMalformed (bytes : List ℕ) : Type 0 where
   pub why : (length bytes < 32)
       ⊎ ((length bytes < 32 + field 12 4 bytes)
@@ -120,8 +121,8 @@ responses_in bytes rs = map (response_in bytes) rs
 abbrev pub IsWholeIn : List ℕ → code.Record → Type 0
 IsWholeIn bytes r = r.data_at + r.head.len ≤ length bytes
 
--- Records stand one after another from one offset to another: each begins where the one before ended, and its data stand
--- right after the 32 bytes of its head.
+-- Records stand one after another from one offset to another: each begins where the one before
+-- ended, and its data stand right after the 32 bytes of its head.
 abbrev pub StandBetween : ℕ → ℕ → List code.Record → Type 0
 StandBetween from to [] = to ≡ from
 StandBetween from to (r ∷ rs) = (r.data_at ≡ from + 32)

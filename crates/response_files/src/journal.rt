@@ -25,8 +25,8 @@ pub struct Journal {
 /// Why a journal was not read.
 #[derive(Clone, Copy, Debug, PartialEq, Eq, Error)]
 pub enum JournalError {
-    /// The first line that isn't what it may be, counted from 1: the head, the number of places, or a call of the editor. A
-    /// first or second line that is missing is bad too.
+    /// The first line that isn't what it may be, counted from 1: the head, the number of places, or
+    /// a call of the editor. A first or second line that is missing is bad too.
     #[error("line {line} is bad")]
     BadLine { line: u64 },
     /// No memory for the lines.
@@ -99,10 +99,11 @@ fn whole_journal(alloc: Global, bytes: &[u8]) -> Result<Journal, JournalError>
     journal_after_head(alloc, rest)
 }
 
-/// What a journal says: the number of places of its run, and a line for each call of the editor. Its last line may lack
-/// its end.
+/// What a journal says: the number of places of its run, and a line for each call of the editor. Its
+/// last line may lack its end.
 ///
-/// The answer is exact: the journal, or the number of its first bad line.
+/// The answer is exact: the journal, or the number of its first bad line. Which places and lines of
+/// the script the calls name isn't looked at.
 pub fn read_journal(alloc: Global, bytes: &[u8]) -> Result<Journal, JournalError>
     // What is read is printed so.
     ensures spelled { IfOk result (λ j. IsJournal bytes.now j) }

@@ -25,8 +25,8 @@ pub struct Record {
 /// Why a response file was not read.
 #[derive(Clone, Copy, Debug, PartialEq, Eq, Error)]
 pub enum RecordError {
-    /// The record at this offset, the first such, is cut, has a byte that isn't 0 where it must be, a kind or an answer
-    /// that the table of records doesn't have, or a completion though nothing was answered.
+    /// The record at this offset, the first such, is cut, has a byte that isn't 0 where it must be,
+    /// an answer that its kind of call can't have, or a completion though nothing was answered.
     #[error("the record at byte {offset} is malformed")]
     Malformed { offset: u64 },
     /// No memory for the records.
@@ -211,11 +211,11 @@ fn all_records(alloc: Global, bytes: &[u8]) -> Result<Vec<Record>, RecordError>
     Ok(records)
 }
 
-/// The records of a response file, one after another with nothing between or after them: a head of 32 bytes, and as many
-/// bytes of data as it says.
+/// The records of a response file, one after another with nothing between or after them: a head of 32
+/// bytes, and as many bytes of data as it says.
 ///
-/// The answer is exact: the records, or the offset of the first that is malformed. Their data stay in `bytes`, where
-/// `Record::data` finds them.
+/// The answer is exact: the records, or the offset of the first that is malformed. Their data stay in
+/// `bytes`, where `Record::data` finds them.
 pub fn read_responses(alloc: Global, bytes: &[u8]) -> Result<Vec<Record>, RecordError>
     // What is read is printed so.
     ensures spelled { IfOk result (λ v. AreResponses bytes.now (responses_in bytes.now v.items)) }
@@ -224,12 +224,14 @@ pub fn read_responses(alloc: Global, bytes: &[u8]) -> Result<Vec<Record>, Record
         → Gives (λ v. responses_in bytes.now v.items) result (Ok rs) }
     // Which fault it is.
     ensures exact { Gives (λ v. responses_in bytes.now v.items) result (responses_of bytes.now) }
-    // The offset is that of the first malformed record, and a file with one is refused so, unless memory runs out.
+    // The offset is that of the first malformed record, and a file with one is refused so, unless
+    // memory runs out.
     ensures fault { IfErr result (λ e. e ≢ Memory
         → (offset : ℕ) × (e ≡ Malformed offset) × IsMalformedAt bytes.now offset) }
     ensures faults { (offset : ℕ) → IsMalformedAt bytes.now offset
         → Gives (λ v. responses_in bytes.now v.items) result (Err (Malformed offset)) }
-    // Where the data stand: right after the head, and the next record right after them, up to the end of the file.
+    // Where the data stand: right after the head, and the next record right after them, up to the end
+    // of the file.
     ensures whole { IfOk result (λ v. All (IsWholeIn bytes.now) v.items) }
     ensures places { IfOk result (λ v. StandBetween 0 (length bytes.now) v.items) }
 {

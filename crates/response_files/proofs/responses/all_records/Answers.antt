@@ -1,6 +1,6 @@
 use Rattle.std.proofs.Common.{◌≡◌, ℕ, ◌+◌, ◌++◌, ◌∷◌, [], length, drop, subst, arith, length-drop}
 use Rattle.std.proofs.lemmas.Result.{err_from_is_err_and}
-use Rattle.std.proofs.lemmas.List.{map_push, length-append, length-map, drop-drop, drop_all}
+use Rattle.std.proofs.lemmas.List.{map_push, length-append, drop-drop, drop_all}
 use Rattle.std.proofs.lemmas.List.Elements.{All-push}
 use Rattle.response_files.specs.Responses.{IsWholeIn, StandBetween, response_in, responses_in}
 use Rattle.response_files.specs.ResponseReading.{responses_of}

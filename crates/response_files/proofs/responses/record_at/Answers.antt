@@ -1,7 +1,6 @@
 use Rattle.std.proofs.Common.{◌≡◌, ◌+◌, Ok, drop, take, sym, ap, ◌∙◌, arith, length}
 use Rattle.std.specs.Prelude.{Some}
 use Rattle.std.proofs.lemmas.List.{drop-drop}
-use Rattle.response_files.specs.Responses.{Response, response_in}
 use Rattle.response_files.specs.ResponseReading.{head_in}
 use Rattle.response_files.proofs.Printing.{next_is}
 use Rattle.response_files.proofs.responses.record_at.Goals as goal
