@@ -50,6 +50,24 @@ fn reads_journals(rt: HostRuntime) -> Result<(), Fail> {
     Ok(())
 }
 
+const DONES: &str = "nvmet-journal 1\nplaces 12\n\
+    done 0 1\ndone 1 2\ndone 2 3\ndone 3 4\ndone 4 5\ndone 5 6\n\
+    done 6 7\ndone 7 8\ndone 8 9\ndone 9 10\ndone 10 11\ndone 11 12";
+
+// Lists that grow more than once, so that each growth can be refused memory.
+#[test]
+fn reads_longer_files(rt: HostRuntime) -> Result<(), Fail> {
+    let mut file = [0; 640];
+    for i in 0..20 {
+        file[32 * i + 4] = 1;
+    }
+    let records = read_responses(rt.alloc(), &file)?;
+    assert_eq!(rt; records.len(), 20);
+    let journal = read_journal(rt.alloc(), DONES.as_bytes())?;
+    assert_eq!(rt; (journal.places, journal.lines.len()), (12, 12));
+    Ok(())
+}
+
 #[test]
 fn errors_in_print(rt: HostRuntime) -> Result<(), Fail> {
     let alloc = rt.alloc();
