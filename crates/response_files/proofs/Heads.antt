@@ -1,5 +1,5 @@
 -- The head that 32 bytes say.
-use Rattle.std.proofs.Common.{◌≡◌, ◌≢◌, ◌⊎◌, ℕ, Bool, true, false, cond, ◌&&◌, ◌||◌, eqb, List, take, drop, Option, Some, None, refl, sym, ap, subst, ◌∙◌, arith, inl, inr}
+use Rattle.std.proofs.Common.{◌≡◌, ◌≢◌, ◌⊎◌, ℕ, Bool, true, false, ◌&&◌, ◌||◌, eqb, List, take, drop, Option, Some, None, refl, sym, ap, subst, ◌∙◌, arith, inl, inr}
 use Rattle.std.specs.Option.{option_and_then}
 use Rattle.std.proofs.lemmas.Bool.{eqb-true, and_parts, and_cases, or_parts}
 use Rattle.std.proofs.lemmas.Option.{cond_some}
@@ -14,6 +14,7 @@ use Rattle.run_records.specs.declared.records.Answer.TheVariants.{Held, Answered
 use Rattle.run_records.specs.declared.records.Head.{Head}
 use Rattle.response_files.specs.Responses.{IsCoded, may_answer, is_answered, is_blank}
 use Rattle.response_files.specs.ResponseReading.{kind_coded, answer_coded, head_with, is_well, head_if_well, head_in}
+use Rattle.response_files.proofs.Choosing.{chosen}
 
 -- ---- codes
 
@@ -28,12 +29,6 @@ answer_again Held = refl
 answer_again Answered = refl
 answer_again Waiting = refl
 answer_again NoEvent = refl
-
--- which way a test went
-pub chosen : {A : Type 0} (b : Bool) (x y z : A) → cond b x y ≡ z → ((b ≡ true) × (x ≡ z))
-    ⊎ ((b ≡ false) × (y ≡ z))
-chosen true x y z e = inl (refl, e)
-chosen false x y z e = inr (refl, e)
 
 kind_is : (n : ℕ) (k : Kind) (x : Kind) (code : ℕ) → eqb code n ≡ true → kind_code x ≡ n
     → ◌≡◌ {A = Option Kind} (Some x) (Some k) → kind_code k ≡ code

@@ -1,3 +1,4 @@
+pub mod Choosing
 pub mod Fields
 pub mod Heads
 pub mod Printing
@@ -9,3 +10,4 @@ pub mod Calling
 pub mod Saying
 pub mod Rows
 pub mod Telling
+pub mod Beginning

@@ -1,5 +1,5 @@
 -- A line of a journal says a call exactly where it is the call's words, with a space between each two.
-use Rattle.std.proofs.Common.{◌≡◌, ◌⊎◌, ◌<◌, ◌≤◌, ◌+◌, ◌%◌, ◌^◌, ℕ, Bool, true, false, cond, eqb, ltb, List, [], ◌∷◌, ◌++◌, Option, Some, None, refl, sym, ap, ◌∙◌, append_assoc, arith, inl, inr, lit≤}
+use Rattle.std.proofs.Common.{◌≡◌, ◌<◌, ◌≤◌, ◌+◌, ◌%◌, ◌^◌, ℕ, true, false, eqb, ltb, List, [], ◌∷◌, ◌++◌, Some, refl, sym, ap, ◌∙◌, append_assoc, arith, inl, inr, lit≤}
 use Rattle.std.specs.Prelude.{codes}
 use Rattle.std.specs.Fmt.{decimal}
 use Rattle.std.specs.List.{list_all, join_with_byte, AllByRecursion}
@@ -19,6 +19,7 @@ use Rattle.journal_text.specs.declared.lines.JournalLine.TheVariants.{Edit, Done
 use Rattle.response_files.specs.Journals.{IsNumbered}
 use Rattle.response_files.specs.JournalReading.{number_in, all_answers, answer_among, answer_in, done_said, edit_said, call_said, call_in, places_said, places_in}
 use Rattle.response_files.proofs.Numbers.{number_was, number_again}
+use Rattle.response_files.proofs.Choosing.{chosen, none_some, then_some}
 
 -- ---- bytes above a limit
 
@@ -106,23 +107,6 @@ call_row call = join_with_byte 32 (call_words call)
 pub row_ended : (call : JournalLine) → line_text call ≡ call_row call ++ 10 ∷ []
 row_ended (Edit place line answer) = simp append_assoc refl
 row_ended (Done place line) = simp append_assoc refl
-
--- which way a test went
-chosen : {A : Type 0} (b : Bool) (x y z : A) → cond b x y ≡ z → ((b ≡ true) × (x ≡ z))
-    ⊎ ((b ≡ false) × (y ≡ z))
-chosen true x y z e = inl (refl, e)
-chosen false x y z e = inr (refl, e)
-
-abbrev maybe : {A : Type 0} → Option A → Option A
-maybe o = o
-
-none_some : {A : Type 0} (x : A) → maybe None ≡ Some x → ⊥
-none_some x e = cc
-
-then_some : {A B : Type 0} (f : A → Option B) (o : Option A) (y : B)
-    → option_and_then f o ≡ Some y → (x : A) × (o ≡ Some x) × (f x ≡ Some y)
-then_some f None y e = absurd cc
-then_some f (Some x) y e = (x, refl, e)
 
 same_bytes : (xs ys : List ℕ) → bytes_eq xs ys ≡ true → xs ≡ ys
 same_bytes xs ys e = (bytes_eq-Decides xs ys).0 e

@@ -18,6 +18,7 @@ use Rattle.response_files.specs.Journals.{IsNumbered, IsText, IsJournal, IsWell,
 use Rattle.response_files.specs.JournalReading.{◌>>=◌, Gives, or_bad, call_in, places_in, calls_from, journal_after_head, journal_by, journal_in}
 use Rattle.response_files.proofs.Saying.{AllAbove, above_joined, above_less, above_decimal, above_answer, call_row, row_ended, call_was, call_again, places_row, places_was, places_again}
 use Rattle.response_files.proofs.Rows.{ended, IsLine, lines_joined, rows_cut}
+use Rattle.response_files.proofs.Choosing.{none_some}
 
 -- ---- the rows of a journal
 
@@ -142,9 +143,7 @@ no_row line none row =
     let same : line ≡ call_row row.0 = append_cancel_right line (call_row row.0) (10 ∷ [])
     (row.2 ∙ row_ended row.0) in
     let some : call_in line ≡ Some row.0 = ap call_in same ∙ call_again row.0 row.1 in
-    none_is (sym none ∙ some) where
-      none_is : {x : JournalLine} → ◌≡◌ {A = Option JournalLine} None (Some x) → ⊥
-      none_is e = cc
+    none_some row.0 (sym none ∙ some)
 
 bad_here : (n : ℕ) (line : List ℕ) (lines : List (List ℕ)) → call_in line ≡ None
     → IsBadCall n (line ∷ lines) n
@@ -236,14 +235,11 @@ with_calls head second lines n (Err errors.Memory) is places t = t
 with_calls head second lines n (Err (errors.BadLine number)) is places t =
     bad_further head second lines n number is places t
 
-none_places : (n : ℕ) → ◌≡◌ {A = Option ℕ} None (Some n) → ⊥
-none_places n e = cc
-
 -- a row that says no number of places
 no_places : (second : List ℕ) → places_in second ≡ None
     → ((n : ℕ) × (n < 2 ^ 32) × (second ≡ places_row n)) → ⊥
 no_places second none row =
-    none_places row.0 (sym none ∙ ap places_in row.2 ∙ places_again row.0 row.1)
+    none_some row.0 (sym none ∙ ap places_in row.2 ∙ places_again row.0 row.1)
 
 with_places : (head second : List ℕ) (lines : List (List ℕ)) (o : Option ℕ) → head ≡ head_row
     → places_in second ≡ o

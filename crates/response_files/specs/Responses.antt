@@ -1,6 +1,6 @@
 -- Response files: records one after another, and the first that is malformed. Offsets are in bytes,
 -- from 0.
-use Rattle.std.specs.Prelude.{◌≡◌, ◌≤◌, ◌<◌, ◌≢◌, ◌⊎◌, ℕ, ◌+◌, ◌^◌, ◌==◌, Bool, true, false, ◌&&◌, ◌||◌, List, [], ◌∷◌, ◌++◌, length, take, drop, map}
+use Rattle.std.specs.Prelude.{◌≡◌, ◌≤◌, ◌<◌, ◌≢◌, ◌⊎◌, ℕ, ◌+◌, ◌^◌, ◌==◌, Bool, true, false, ◌&&◌, ◌||◌, List, [], ◌∷◌, ◌++◌, length, take, drop, map, All, ◌↔◌}
 use Rattle.std.specs.List.{flat_map, AllByRecursion}
 use Rattle.sqe_cqe.specs.Fields.{field}
 use Rattle.sqe_cqe.specs.Cqe.{cqe_of}
@@ -97,6 +97,18 @@ pub record IsMalformed (bytes : List ℕ) : Type 0 where
       ⊎ ((field 6 2 bytes ≢ 0)
       ⊎ ((IsCoded (field 4 1 bytes) (field 5 1 bytes) → ⊥)
       ⊎ ((field 5 1 bytes ≢ 1) × (is_blank (cqe_of (take 16 (drop 16 bytes))) ≡ false)))))
+
+-- the print of a record stands at the front of the bytes
+pub record BeginWithRecord (bytes : List ℕ) : Type 0 where
+  pub response : Response
+  pub more : List ℕ
+  pub is : IsResponse response
+  pub cut : bytes ≡ response_bytes response ++ more
+
+-- bytes are malformed exactly where they don't begin with the print of a record
+abbrev pub MalformedIsNoRecord : Type 0
+MalformedIsNoRecord = (bytes : List ℕ) → All (λ b. b < 256) bytes
+    → IsMalformed bytes ↔ (BeginWithRecord bytes → ⊥)
 
 -- records stand before the offset, and bytes that begin no record stand there
 pub record IsMalformedAt (bytes : List ℕ) (offset : ℕ) : Type 0 where

@@ -8,9 +8,11 @@
 
 mod journal;
 mod journal_lines;
+mod law;
 mod responses;
 #[cfg(test)]
 mod tests;
 
 pub use journal::{Journal, JournalError, read_journal};
+pub use law::malformed_bytes_begin_no_record;
 pub use responses::{Record, RecordError, read_responses};

@@ -14,6 +14,7 @@ const RECORDS: [u8; 66] = [
 
 #[test]
 fn reads_responses(rt: HostRuntime) -> Result<(), Fail> {
+    malformed_bytes_begin_no_record();
     let records = read_responses(rt.alloc(), &RECORDS)?;
     assert_eq!(rt; records.len(), 2);
     let (first, second) = (records[0], records[1]);
