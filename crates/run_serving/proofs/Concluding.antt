@@ -10,9 +10,15 @@ use Rattle.plan_files.specs.declared.items.Plan.{Plan}
 use Rattle.plan_files.specs.Capsules.{Capsule}
 use Rattle.configfs_rows.specs.declared.namespaces.Phase.{Phase}
 use Rattle.configfs_tree.specs.Phases.{phase_at}
+use Rattle.configfs_tree.specs.declared.configuration.Configuration.{Configuration}
+use Rattle.sqe_cqe.specs.declared.sqe.Sqe.{Sqe}
+use Rattle.fabrics_connect.specs.declared.answer.Answer.{Answer}
+use Rattle.fabrics_connect.specs.declared.answer.Answer.TheVariants.{Refused, Makes, Joins, Reads, Sets}
+use Rattle.fabrics_connect.specs.After.{tree_after}
+use Rattle.tree_target.specs.Controls.{after_control, answer_on}
 use Rattle.tree_target.specs.Kept.{Kept}
-use Rattle.tree_target.specs.Model.{Call, Submit, Execute, Poll, Control, AnEdit, DrainEnd, Entry, Target, binding_at, caller_of}
-use Rattle.tree_target.specs.Steps.{target_after, is_draining_phase}
+use Rattle.tree_target.specs.Model.{Binding, Call, Submit, Execute, Poll, Control, AnEdit, DrainEnd, Entry, Target, binding_at, caller_of}
+use Rattle.tree_target.specs.Steps.{changed, target_after, is_draining_phase}
 use Rattle.tree_target.specs.Fixed.{Desk, QueuesLeaveDesk, desk, is_editors}
 use Rattle.tree_target.specs.Held.{BindingsAreOwn}
 use Rattle.tree_target.specs.Legal.{IsLegal, after}

@@ -16,7 +16,7 @@ use Rattle.tree_target.specs.Model.{Binding, Bound, Target, Poll, binding_at}
 use Rattle.tree_target.specs.Steps.{changed, polled_reply, reply_of, target_after}
 use Rattle.tree_target.specs.Views.{view_at}
 use Rattle.run_serving.specs.Goes.{EndsWithin}
-use Rattle.tree_target.proofs.Joining.{get_set}
+use Rattle.tree_target.proofs.Joining.{get_put}
 
 -- ---- one kind of notice: whether it is pending, and whether it may still become so
 abbrev one_if : Bool → ℕ
@@ -134,7 +134,7 @@ most_in cs events (Some b) = by b.bound where
 put_numbered : (events : List Events) (ctrl : ℕ) (k j : Events)
     → events_numbered events ctrl ≡ Some k → events_numbered (put_events events ctrl j) ctrl ≡ Some j
 put_numbered events zero k j e = absurd cc
-put_numbered events (suc n) k j e = get_set events n k j e
+put_numbered events (suc n) k j e = get_put events n j k e
 
 with_points : (v : View) (ctrl : ℕ) (events : List Events) (c : Option ControllerRow)
     (k : Option Events) (x : ℕ × ℕ) → events_numbered events ctrl ≡ k → event_with v c k ≡ Some x
