@@ -9,34 +9,22 @@ use Rattle.run_outcomes.specs.Outsides.{Told, FilesView, Outside}
 use Rattle.run_inputs.specs.Gives.{PlanBegins}
 use Rattle.run_inputs.specs.InputFiles.{input_files}
 use Rattle.run_inputs.specs.Known.{Known, begun}
-use Rattle.run_inputs.specs.Ready.{ToldFilesSettle}
-use Rattle.run_inputs.specs.Reading.{Reading, ReadsAll, FilesTell, StopsBy}
+use Rattle.run_inputs.specs.Ready.{IsRead, ToldFilesSettle}
+use Rattle.run_inputs.specs.Reading.{WasRead, AllWasRead, Reading, ReadsAll, FilesTell}
 use Rattle.run_inputs.specs.Walk.{Then, Walk, WalkAll}
 use Rattle.run_transcript.specs.Runs.{Run}
 use Rattle.nvmet_run.specs.Codes.{status_of}
 use Rattle.nvmet_run.specs.declared.status.Status.{Status}
 use Rattle.nvmet_run.specs.declared.status.Status.TheVariants as status
-use Rattle.nvmet_run.specs.Headline.{Reads, IsRead, Ran}
-use Rattle.nvmet_run.specs.Refusals.{Refusal, Unread, Unwritten, Unsaid}
+use Rattle.nvmet_run.specs.Headline.{Ran}
+use Rattle.nvmet_run.specs.Refusals.{Refusal, StopsBy, Unread, Unwritten, Unsaid}
 use Rattle.nvmet_run.proofs.Known.{reads_walk}
 
--- what a run read, as it is said of what was read
-abbrev known_of : Run → ℕ → ℕ → Known
-known_of run input output = record {
-  plan = run.plan;
-  start = run.start;
-  passed_over = run.passed_over;
-  script = run.script;
-  files = run.files;
-  input = input;
-  output = output;
-}
-
 reads_all : (before after : FilesView) (name : List ℕ) (s : Known)
-    → WalkAll (Reads before.told) name (Ok s) → ReadsAll before after name (Ok s)
+    → AllWasRead before.told name s → ReadsAll before after name (Ok s)
 reads_all before after name s w = by w.0 w.1 w.2 where
-  by : (u : Result Known Fault) → Reads before.told PLAN name PlanBegins u
-      → Then u (λ v. Walk (Reads before.told) (input_files v.plan) v) (Ok s)
+  by : (u : Result Known Fault) → WasRead before.told PLAN name PlanBegins u
+      → Then u (λ v. Walk (WasRead before.told) (input_files v.plan) v) (Ok s)
       → ReadsAll before after name (Ok s)
   by (Ok v) says rest = (Ok v, says, reads_walk before after (input_files v.plan) v s rest)
   by (Err f) says rest = absurd cc
@@ -60,8 +48,8 @@ pub read_settles : (before after : FilesView) (name : List ℕ) (run : Run) (f :
     → ToldFilesSettle → IsRead before.told name run → FilesTell before.told name (Err f)
     → (Rose before.faults after.faults → ⊥) → ⊥
 read_settles before after name run f law r tells quiet = elim
-    (law before after name (Ok (known_of run r.input r.output)) (Err f)
-    (reads_all before after name (known_of run r.input r.output) r.is) tells quiet) [
+    (law before after name (Ok r.known) (Err f)
+    (reads_all before after name r.known r.was_read) tells quiet) [
       | inl e ↦ cc
       | inr e ↦ cc
     ]

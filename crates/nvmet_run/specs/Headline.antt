@@ -1,37 +1,12 @@
 -- What a run that ended well has done.
-use Rattle.std.specs.Prelude.{ℕ, List, map, Option, Result, Ok}
-use Rattle.run_inputs.specs.Known.{Known}
-use Rattle.run_inputs.specs.Reading.{ReadsSo}
-use Rattle.run_inputs.specs.Walk.{WalkAll}
-use Rattle.run_outcomes.specs.declared.numbers.FileNo.{FileNo}
-use Rattle.run_outcomes.specs.declared.faults.Fault.{Fault}
+use Rattle.std.specs.Prelude.{ℕ, List, map, Option}
+use Rattle.run_inputs.specs.Ready.{IsRead}
 use Rattle.run_outcomes.specs.Outsides.{Told, Took}
 use Rattle.run_outcomes.specs.Names.{to_write}
 use Rattle.run_outcomes.specs.Written.{ToWrite, AreWritten, KeptBut}
 use Rattle.run_transcript.specs.Runs.{Run, IsOrdered, IsLegalRun}
 use Rattle.run_transcript.specs.Served.{IsServed}
 use Rattle.run_transcript.specs.Printing.{responses, journal, summary}
-
--- ---- read
--- some bytes, which the file of this name holds where that is told, give this
-abbrev pub Reads : Told → FileNo → List ℕ → (List ℕ → Result Known Fault → Type 0)
-    → Result Known Fault → Type 0
-Reads told file name gives r = ReadsSo told name gives r
-
--- plan, start, script and capsules are what the files told when they were read, in the order of
--- reading; the files of capsules have so many bytes together, and the responses need so much room
-pub record IsRead (told : Told) (name : List ℕ) (run : Run) : Type 0 where
-  pub input : ℕ
-  pub output : ℕ
-  pub is : WalkAll (Reads told) name (Ok (record {
-    plan = run.plan;
-    start = run.start;
-    passed_over = run.passed_over;
-    script = run.script;
-    files = run.files;
-    input = input;
-    output = output;
-  }))
 
 -- ---- written
 -- the files that a run writes, in order, with what they are to hold: the responses of each queue,

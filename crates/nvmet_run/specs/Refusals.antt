@@ -1,13 +1,15 @@
 -- Why a run did not end well, and what it left.
-use Rattle.std.specs.Prelude.{◌≡◌, ◌⊎◌, ℕ, List, [], ◌∷◌, ◌++◌, codes, Option, Some, None}
+use Rattle.std.specs.Prelude.{◌≡◌, ◌⊎◌, ℕ, List, [], ◌∷◌, ◌++◌, codes, Option, Some, None, Ok, Err}
 use Rattle.plan_files.specs.declared.items.Plan.{Plan}
-use Rattle.run_inputs.specs.InputFiles.{name_of}
-use Rattle.run_inputs.specs.Reading.{StopsBy}
+use Rattle.run_inputs.specs.Gives.{PlanBegins}
+use Rattle.run_inputs.specs.InputFiles.{input_files, name_of}
+use Rattle.run_inputs.specs.Known.{begun}
+use Rattle.run_inputs.specs.Reading.{Reading, ReadsFiles, ReadsSo}
 use Rattle.run_outcomes.specs.declared.faults.Fault.{Fault}
 use Rattle.run_outcomes.specs.declared.faults.Fault.TheVariants as fault
-use Rattle.run_outcomes.specs.declared.numbers.TheConstants.{SINK}
+use Rattle.run_outcomes.specs.declared.numbers.TheConstants.{PLAN, SINK}
 use Rattle.run_outcomes.specs.Numbers.{file_of}
-use Rattle.run_outcomes.specs.Outsides.{Outside, Kept, Said, FailedPut}
+use Rattle.run_outcomes.specs.Outsides.{Outside, FilesView, Kept, Said, FailedPut}
 use Rattle.run_outcomes.specs.Texts.{line_of}
 use Rattle.run_outcomes.specs.Written.{StopsAt}
 use Rattle.run_transcript.specs.Runs.{Run}
@@ -18,6 +20,12 @@ use Rattle.nvmet_run.specs.Headline.{IsRunOf, IsWrittenOut, files_of_run}
 abbrev pub name_in : List ℕ → Option Plan → Fault → List ℕ
 name_in name None f = name
 name_in name (Some plan) f = name_of name plan (file_of f)
+
+-- reading ended by this fault: at the plan itself, or at a file that the plan names
+abbrev pub StopsBy : FilesView → FilesView → List ℕ → Option Plan → Fault → Type 0
+StopsBy before after name None f = Reading before after PLAN name PlanBegins (Err f)
+StopsBy before after name (Some plan) f = ReadsSo before.told name PlanBegins (Ok (begun plan))
+    × ReadsFiles before after (input_files plan) (begun plan) (Err f)
 
 -- A file was not read, or an edit of the configuration was refused. Nothing was written, and the
 -- sink took the line that says so.

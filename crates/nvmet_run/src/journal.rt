@@ -1,5 +1,5 @@
 // The text of a run's journal.
-ghost use Rattle.std.specs.Prelude.{◌≡◌, ◌≤◌, ◌*◌, length, IfOk};
+ghost use Rattle.std.specs.Prelude.{◌≡◌, ◌≤◌, ◌*◌, ◌^◌, IfOk};
 ghost use Rattle.std.specs.List.{sum_by};
 ghost use Rattle.journal_text.specs.Rooms.{journal_room, line_room};
 ghost use Rattle.journal_text.specs.Text.{journal_text};
@@ -18,28 +18,31 @@ fn room_of_line(line: &JournalLine) -> usize
     }
 }
 
-// The room that a journal of these lines needs.
-fn room_of_journal(lines: &[JournalLine]) -> usize
-    requires { length lines.now ≤ 131072 }
+// The room that a journal of these lines needs. It doesn't pass 128 bits, since no list has 2^64
+// lines.
+fn room_of_journal(lines: &[JournalLine]) -> u128
     ensures { result ≡ journal_room lines.now }
 {
-    let mut room = 0;
+    let mut room: u128 = 0;
     for line in lines {
-        room += room_of_line(line);
+        room += room_of_line(line) as u128;
     }
-    HEAD_BYTES + room
+    HEAD_BYTES as u128 + room
 }
 
-/// The journal of a run with so many places: at most 131,072 lines, two for each edit.
+/// The journal of a run with so many places. A journal that is longer than memory can be is one for
+/// which there is no memory.
 pub fn journal_of(
     alloc: Global,
     places: u32,
     lines: &[JournalLine],
 ) -> Result<Buffer, AllocError>
-    requires { length lines.now ≤ 131072 }
     ensures { IfOk result (λ b. b.bytes ≡ journal_text places lines.now) }
 {
-    let mut text = Buffer::with_room(alloc, room_of_journal(lines))?;
+    let Ok(room) = usize::try_from(room_of_journal(lines)) else {
+        return Err(AllocError);
+    };
+    let mut text = Buffer::with_room(alloc, room)?;
     put_journal(places, lines, &mut text);
     Ok(text)
 }

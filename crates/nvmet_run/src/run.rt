@@ -1,6 +1,7 @@
 // Runs of plans.
 ghost use Rattle.std.specs.Prelude.{◌≡◌, ◌≢◌, ◌≤◌, ◌⊎◌, ℕ, List, All, IsTrue, IfOk, IfErr, OnOk, Ok, Err, length, map, string_bytes};
 ghost use Rattle.run_outside.specs.Outside.{Rose};
+ghost use Rattle.plan_files.specs.declared.plan.TheConstants.{MAX_QUEUES};
 ghost use Rattle.link_rules.specs.Table.{is_fitting};
 ghost use Rattle.script_lines.specs.declared.lines.TheConstants.{MAX_LINES};
 ghost use Rattle.tree_target.specs.Kept.{IsIdle};
@@ -44,6 +45,7 @@ struct Printed {
 // Serves what was read, and makes the texts of it.
 fn serve_inputs(alloc: Global, inputs: &mut PlanInputs) -> Result<Printed, AllocError>
     requires queues { length inputs.old.files.items ≡ length inputs.old.target.bindings }
+    requires few_queues { length inputs.old.files.items ≤ MAX_QUEUES }
     requires idle { (queue : ℕ) → IsIdle inputs.old.target queue }
     requires ready { All IsReady inputs.old.files.items }
     requires lines { length inputs.old.script.items ≤ MAX_LINES }

@@ -168,19 +168,20 @@ unfolding event_at changed events_polled
 step t queue x e = by_binding t (binding_at t queue) x e
 
 -- ---- polls one after another
+no_event : (t : Target) (queue : ℕ) → event_at t queue ≡ None
+    → reply_of t (Poll queue) ≡ replies.NoEvent
+unfolding reply_of
+no_event t queue e = ap (λ o. polled_reply t queue o) e
+
 ends : (n : ℕ) (t : Target) (queue : ℕ) → points_at t queue < n → EndsWithin n t queue
 ends zero t queue lt = absurd (omega (arith, lt))
 ends (suc n) t queue lt =
     by (event_at t queue) refl (λ less. ends n (target_after t (Poll queue)) queue less) where
-  none : event_at t queue ≡ None → reply_of t (Poll queue) ≡ replies.NoEvent
-  unfolding reply_of
-  none e = ap (λ o. polled_reply t queue o) e
-
   by : (o : Option (ℕ × ℕ)) → event_at t queue ≡ o
       → (points_at (target_after t (Poll queue)) queue < n
       → EndsWithin n (target_after t (Poll queue)) queue)
       → EndsWithin (suc n) t queue
-  by None e more = inl (none e)
+  by None e more = inl (no_event t queue e)
   by (Some x) e more = inr (more (omega (arith, lt, step t queue x e)))
 
 pub polls_end : (t : Target) (queue : ℕ) → EndsWithin 5 t queue
