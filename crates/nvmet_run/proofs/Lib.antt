@@ -1,11 +1,4 @@
-pub mod Placing
-pub mod More
+pub mod Known
 pub mod Making
-pub mod Whole
-pub mod Puts
-pub mod LineCounts
-pub mod Runnable
-pub mod Refusing
-pub mod Serving
+pub mod Ending
 pub mod Settling
-mod Spaces

@@ -1,11 +1,9 @@
 -- Exit statuses, and the status of a fault.
 use Rattle.std.specs.Prelude.{ℕ}
-use Rattle.nvmet_run.specs.declared.status.FileNo.{FileNo}
-use Rattle.nvmet_run.specs.declared.status.TheConstants.{PLAN}
+use Rattle.run_outcomes.specs.declared.faults.Fault.{Fault}
+use Rattle.run_outcomes.specs.declared.faults.Fault.TheVariants as fault
 use Rattle.nvmet_run.specs.declared.status.Status.{Status}
 use Rattle.nvmet_run.specs.declared.status.Status.TheVariants as status
-use Rattle.nvmet_run.specs.declared.status.Fault.{Fault}
-use Rattle.nvmet_run.specs.declared.status.Fault.TheVariants as fault
 
 abbrev pub code_of : Status → ℕ
 code_of status.Fine = 0
@@ -15,6 +13,7 @@ code_of (status.ReadFault file) = 3
 code_of (status.WriteFault file) = 4
 code_of status.Memory = 5
 code_of (status.Limit file what count) = 6
+code_of (status.ConfigRefused edit errno) = 7
 
 abbrev pub status_of : Fault → Status
 status_of (fault.Malformed file at) = status.Malformed file at
@@ -22,11 +21,4 @@ status_of (fault.ReadFault file) = status.ReadFault file
 status_of (fault.WriteFault file) = status.WriteFault file
 status_of fault.Memory = status.Memory
 status_of (fault.Limit file what count) = status.Limit file what count
-
--- the file of a fault; want of memory has none, and is put down to the plan
-abbrev pub file_of : Fault → FileNo
-file_of (fault.Malformed file at) = file
-file_of (fault.ReadFault file) = file
-file_of (fault.WriteFault file) = file
-file_of fault.Memory = PLAN
-file_of (fault.Limit file what count) = file
+status_of (fault.ConfigRefused edit errno) = status.ConfigRefused edit errno

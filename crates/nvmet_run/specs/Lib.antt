@@ -1,12 +1,6 @@
-pub mod Runs
-pub mod Served
-pub mod Printing
-pub mod Prints
-pub mod Goes
-pub mod Reading
-pub mod Headline
-pub mod Outsides
-pub mod Refusals
-pub mod Commands
 pub mod Codes
-pub mod Texts
+pub mod Commands
+pub mod Headline
+pub mod Refusals
+pub mod Made
+pub mod Totals

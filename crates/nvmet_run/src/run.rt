@@ -1,123 +1,163 @@
-ghost use Rattle.std.specs.Prelude.{◌≡◌, ◌≢◌, ◌≤◌, ◌⊎◌, ℕ, List, Some, None, IfOk, IfErr, OnOk, IsUtf8, string_bytes};
-ghost use Rattle.mem_bdev.specs.Blocks.{IsShape};
+// Runs of plans.
+ghost use Rattle.std.specs.Prelude.{◌≡◌, ◌≢◌, ◌≤◌, ◌⊎◌, ℕ, List, All, IsTrue, IfOk, IfErr, OnOk, Ok, Err, length, map, string_bytes};
 ghost use Rattle.run_outside.specs.Outside.{Rose};
+ghost use Rattle.plan_files.specs.declared.plan.TheConstants.{MAX_QUEUES};
+ghost use Rattle.link_rules.specs.Table.{is_fitting};
+ghost use Rattle.script_lines.specs.declared.lines.TheConstants.{MAX_LINES};
+ghost use Rattle.tree_target.specs.Kept.{IsIdle};
+ghost use Rattle.run_inputs.specs.Gives.{PlanBegins};
+ghost use Rattle.run_inputs.specs.Known.{Known, begun};
+ghost use Rattle.run_inputs.specs.Planned.{IsPlanned};
+ghost use Rattle.run_inputs.specs.Reading.{FilesTell, ReadsSo};
+ghost use Rattle.run_inputs.specs.Ready.{HoldsRest, IsReady};
+ghost use Rattle.run_inputs.specs.Views.{IsEarlier, seen};
+ghost use Rattle.run_outcomes.specs.declared.faults.Fault.{Fault};
+ghost use Rattle.run_outcomes.specs.Names.{to_write};
+ghost use Rattle.run_outcomes.specs.Outsides.{told_by, files_view, sink_view, outside, Said, Took};
+ghost use Rattle.run_outcomes.specs.Texts.{line_of};
+ghost use Rattle.run_outcomes.specs.Written.{AllWritten};
 ghost use Rattle.nvmet_run.specs.Codes.{status_of};
-ghost use Rattle.nvmet_run.specs.Headline.{told_by, ReadsPlan, ServedPlan, IsSimpleOf, IsRunnable, Ran};
-ghost use Rattle.nvmet_run.specs.Outsides.{files_view, sink_view, outside, Said};
-ghost use Rattle.nvmet_run.specs.Reading.{capsules_of_file};
-ghost use Rattle.nvmet_run.specs.Refusals.{FileRefused, ServingRefused, Refusal, FilesTell, name_by};
-ghost use Rattle.nvmet_run.specs.Texts.{line_of};
-ghost use Rattle.nvmet_run.specs.declared.status.Fault.{Fault};
+ghost use Rattle.nvmet_run.specs.Headline.{Ran};
+ghost use Rattle.nvmet_run.specs.Made.{Makes, MakesPlan, RunEnds, Stops, WriteEnds};
+ghost use Rattle.nvmet_run.specs.Refusals.{Refusal};
 
-use crate::files::{put, read_capsule_file, read_plan_file, write_responses};
-use crate::output::Output;
-use crate::report::put_line;
-use crate::serve::serve_file;
-use crate::status::{CAPSULES, Fault, FileNo, RESPONSES, Status};
+use crate::journal::journal_of;
+use crate::status::Status;
 use crate::summary::summary_text;
-use mem_bdev::{Buffer, DiskLine};
-use plan_files::{Files, Gate, Plan, QueueLine, Sink};
-use seq_target::Target;
-use std::alloc::Global;
+use crate::writing::write_files;
+use mem_bdev::Buffer;
+use plan_files::{Files, Gate, Plan, Sink};
+use run_inputs::{PlanInputs, file_name, read_plan_file, read_plan_inputs, told_files_settle};
+use run_serving::{Served, serve};
+use run_outcomes::{Fault, plans_have_apart_names, put_line, put_text};
+use std::alloc::{AllocError, Global};
 use std::sync::Wait;
 use std::thread::Threads;
 
 // What a run has made before it writes.
 #[derive(Drop)]
 struct Printed {
-    records: Buffer,
+    served: Served,
+    journal: Buffer,
     text: String,
 }
 
-// Reads the capsules of a simple plan and serves them.
-fn serve_plan<F: Files>(
-    alloc: Global,
-    disk: &DiskLine,
-    queue: &QueueLine,
-    files: &mut F,
-) -> Result<Printed, Fault>
-    requires shape { IsShape disk.now.shift disk.now.blocks }
-    requires text { IsUtf8 queue.now.capsules }
-    ensures served { IfOk result (λ m. ServedPlan (told_by (F.tells files.old) (F.told files.old))
-        disk.now queue.now m.records.bytes (string_bytes m.text)) }
-    ensures refused { IfErr result (λ f. FileRefused CAPSULES queue.now.capsules capsules_of_file
-        (files_view (told_by (F.tells files.old) (F.told files.old)) (F.faults files.old)
-        (F.last files.old))
-        (files_view (told_by (F.tells files.new) (F.told files.new)) (F.faults files.new)
-        (F.last files.new)) f) }
-    ensures same { (told_by (F.tells files.new) (F.told files.new))
-        ≡ (told_by (F.tells files.old) (F.told files.old)) }
-    ensures later { F.faults files.old ≤ F.faults files.new }
+// Serves what was read, and makes the texts of it.
+fn serve_inputs(alloc: Global, inputs: &mut PlanInputs) -> Result<Printed, AllocError>
+    requires queues { length inputs.old.files.items ≡ length inputs.old.target.bindings }
+    requires few_queues { length inputs.old.files.items ≤ MAX_QUEUES }
+    requires idle { (queue : ℕ) → IsIdle inputs.old.target queue }
+    requires ready { All IsReady inputs.old.files.items }
+    requires lines { length inputs.old.script.items ≤ MAX_LINES }
+    requires fitting { All (λ s. IsTrue (is_fitting s.edit)) inputs.old.script.items }
+    ensures { IfOk result (λ m. (s : Known) → HoldsRest inputs.old s
+        → Makes s (map (λ o. o.records.bytes) m.served.outputs.items) m.journal.bytes
+        (string_bytes m.text)) }
 {
-    let file = read_capsule_file(alloc, &queue.capsules, files)?;
-    let mut target = Target::simple(alloc, disk)?;
-    let mut output = Output::new(alloc, file.room as usize)?;
-    serve_file(&mut target, 1, &file.capsules, &file.bytes, &mut output);
-    let text = summary_text(alloc, &output)?;
+    let served = serve(alloc, &mut inputs.target, &inputs.script, &inputs.files)?;
+    let journal = journal_of(alloc, served.places, &served.journal)?;
+    let text = summary_text(alloc, &served, inputs.passed_over)?;
     Ok(Printed {
-        records: output.records,
+        served,
+        journal,
         text,
     })
 }
 
-// The disk and the queue of a simple plan.
-fn split_plan(plan: &Plan) -> (&DiskLine, &QueueLine)
-    requires { IsRunnable plan.now }
-    ensures simple { IsSimpleOf plan.now result.0.now result.1.now }
-    ensures capsules { IsUtf8 result.1.now.capsules }
-    ensures responses { IsUtf8 result.1.now.responses }
+// Reads the files that a plan names, and serves them.
+fn make_run<F: Files>(alloc: Global, plan: &Plan, files: &mut F) -> Result<Printed, Fault>
+    requires { IsPlanned plan.now }
+    ensures made { IfOk result (λ m. (name : List ℕ)
+        → ReadsSo (told_by (F.tells files.old) (F.told files.old)) name PlanBegins
+        (Ok (begun plan.now))
+        → MakesPlan (told_by (F.tells files.old) (F.told files.old)) name plan.now
+        (map (λ o. o.records.bytes) m.served.outputs.items) m.journal.bytes
+        (string_bytes m.text)) }
+    ensures refused { IfErr result (λ f. Stops
+        (seen (F.tells files.old) (F.told files.old) (F.faults files.old) (F.last files.old))
+        (seen (F.tells files.new) (F.told files.new) (F.faults files.new) (F.last files.new))
+        plan.now f) }
+    ensures later { IsEarlier
+        (seen (F.tells files.old) (F.told files.old) (F.faults files.old) (F.last files.old))
+        (seen (F.tells files.new) (F.told files.new) (F.faults files.new) (F.last files.new)) }
 {
-    let disks = plan.disks.as_slice();
-    let queues = plan.queues.as_slice();
-    (&disks[0], &queues[0])
+    match read_plan_inputs(alloc, plan, files) {
+        Ok(mut inputs) => match serve_inputs(alloc, &mut inputs) {
+            Ok(printed) => Ok(printed),
+            Err(_) => Err(Fault::Memory),
+        },
+        Err(fault) => Err(fault),
+    }
 }
 
-// Serves a plan that was read, writes its response file and puts its summary.
+// Writes the files of a run, and puts its summary.
+fn write_run<F: Files, K: Sink>(
+    plan: &Plan,
+    printed: &Printed,
+    files: &mut F,
+    out: &mut K,
+) -> Result<(), Fault>
+    requires { IsPlanned plan.now }
+    ensures written { OnOk result (AllWritten (to_write plan.now
+        (map (λ o. o.records.bytes) printed.now.served.outputs.items) printed.now.journal.bytes)
+        (told_by (F.tells files.old) (F.told files.old))
+        (told_by (F.tells files.new) (F.told files.new))) }
+    ensures put { OnOk result (Took (K.taken out.old) (K.taken out.new)
+        (string_bytes printed.now.text)) }
+    ensures refused { IfErr result (λ f. WriteEnds (to_write plan.now
+        (map (λ o. o.records.bytes) printed.now.served.outputs.items) printed.now.journal.bytes)
+        (outside (told_by (F.tells files.old) (F.told files.old)) (F.faults files.old)
+        (F.last files.old) (K.taken out.old) (K.faults out.old))
+        (outside (told_by (F.tells files.new) (F.told files.new)) (F.faults files.new)
+        (F.last files.new) (K.taken out.new) (K.faults out.new)) (string_bytes printed.now.text)
+        f) }
+{
+    plans_have_apart_names();
+    let lines = plan.queues.as_slice();
+    let text = printed.journal.bytes();
+    match write_files(1, lines, &printed.served.outputs, &plan.journal, text, files) {
+        Ok(()) => put_text(printed.text.as_bytes(), out),
+        Err(fault) => Err(fault),
+    }
+}
+
+// Runs a plan that was read, up to the line of its fault.
 fn run_read<F: Files, K: Sink>(
     alloc: Global,
     plan: &Plan,
     files: &mut F,
     out: &mut K,
 ) -> Result<(), Fault>
-    requires { IsRunnable plan.now }
+    requires { IsPlanned plan.now }
     ensures ran { OnOk result ((name : List ℕ)
-        → ReadsPlan (told_by (F.tells files.old) (F.told files.old)) name plan.now
+        → ReadsSo (told_by (F.tells files.old) (F.told files.old)) name PlanBegins
+        (Ok (begun plan.now))
         → Ran (told_by (F.tells files.old) (F.told files.old)) (told_by (F.tells files.new)
         (F.told files.new)) (K.taken out.old) (K.taken out.new) name) }
     ensures refused { IfErr result (λ f. (name : List ℕ)
-        → ReadsPlan (told_by (F.tells files.old) (F.told files.old)) name plan.now → ServingRefused
+        → ReadsSo (told_by (F.tells files.old) (F.told files.old)) name PlanBegins
+        (Ok (begun plan.now)) → RunEnds
         (outside (told_by (F.tells files.old) (F.told files.old)) (F.faults files.old)
         (F.last files.old) (K.taken out.old) (K.faults out.old))
         (outside (told_by (F.tells files.new) (F.told files.new)) (F.faults files.new)
-        (F.last files.new) (K.taken out.new) (K.faults out.new)) name plan.now.queues f) }
+        (F.last files.new) (K.taken out.new) (K.faults out.new)) name plan.now f) }
 {
-    let (disk, queue) = split_plan(plan);
-    let made = serve_plan(alloc, disk, queue, files)?;
-    write_responses(&queue.responses, made.records.bytes(), files)?;
-    put(made.text.as_str(), out)?;
-    Ok(())
-}
-
-// The name of a file of a run, by its number.
-fn name_of<'a>(queues: &'a [QueueLine], name: &'a [u8], file: FileNo) -> &'a [u8]
-    ensures { result.now ≡ name_by queues.now name.now file }
-{
-    match queues {
-        [queue, ..] if file == CAPSULES => queue.capsules.as_bytes(),
-        [queue, ..] if file == RESPONSES => queue.responses.as_bytes(),
-        _ => name,
+    match make_run(alloc, plan, files) {
+        Ok(printed) => match write_run(plan, &printed, files, out) {
+            Ok(()) => Ok(()),
+            Err(fault) => Err(fault),
+        },
+        Err(fault) => Err(fault),
     }
 }
 
-// Puts the line of a fault in the file of this name, and hands the fault on.
-fn report_fault<K: Sink>(file: &[u8], fault: Fault, out: &mut K) -> Fault
-    ensures same { result ≡ fault }
-    ensures said { Said
+// Puts the line of a fault in the file of this name.
+fn report_fault<K: Sink>(file: &[u8], fault: &Fault, out: &mut K)
+    ensures { Said
         (sink_view (K.taken out.old) (K.faults out.old))
-        (sink_view (K.taken out.new) (K.faults out.new)) (line_of file.now fault) }
+        (sink_view (K.taken out.new) (K.faults out.new)) (line_of file.now fault.now) }
 {
-    let _ = put_line(file, &fault, out);
-    fault
+    let _ = put_line(file, fault, out);
 }
 
 // The run of a plan, with the line of its fault.
@@ -138,28 +178,36 @@ fn run_whole<F: Files, K: Sink>(
 {
     let read = match read_plan_file(alloc, plan, files) {
         Ok(read) => read,
-        Err(fault) => return Err(report_fault(plan.as_bytes(), fault, out)),
+        Err(fault) => {
+            report_fault(plan.as_bytes(), &fault, out);
+            return Err(fault);
+        }
     };
     match run_read(alloc, &read, files, out) {
         Ok(()) => Ok(()),
         Err(fault) => {
-            let file = name_of(read.queues.as_slice(), plan.as_bytes(), fault.file());
-            Err(report_fault(file, fault, out))
+            report_fault(file_name(plan.as_bytes(), &read, fault.file()), &fault, out);
+            Err(fault)
         }
     }
 }
 
-/// Runs a plan: reads it and its capsule files, serves them, writes the response files and puts the summary.
+/// Runs a plan: reads it and the files that it names, serves them, writes the response files and the
+/// journal, and puts the summary.
 ///
 /// - `Fine`: the run theorem holds.
-/// - `Malformed`, `Limit`: the first bad place or passed limit of the plan, or else of the queue file.
-/// - `ReadFault`: the read of that file failed. It was the last call on the files, and their count of faults rose.
-/// - `WriteFault`: the same of the write of the response file; or the sink failed while it took the summary.
-/// - `Memory`: memory ran out.
+/// - `Malformed`, `Limit`, `ConfigRefused`: the first bad place, passed limit or refused edit in the
+///   order of reading: the plan, its configuration, its script, the files of its queues.
+/// - `ReadFault`: the read of that file failed. It was the last call on the files, and their count of
+///   faults rose.
+/// - `WriteFault`: the same of the write of that file, and the files before it are written; or the
+///   sink failed while it took the summary.
+/// - `Memory`: memory ran out, before anything was written or at the write of a file.
 ///
-/// With any status but `Fine` the sink takes the one line of that status, or a front of it where it fails, which changes no
-/// status; but where it failed under the summary, it took a front of the summary, and nothing more is put. Before the
-/// write no file is touched, and no other than the response file ever is. The call may wait.
+/// With any status but `Fine` the sink takes the one line of that status, or a front of it where it
+/// fails, which changes no status; but where it failed under the summary, it took a front of the
+/// summary, and nothing more is put. Before all is read and served no file is touched, and none but
+/// the response files and the journal ever is. The call may wait.
 pub fn run_plan<R: Wait + Threads + Sync, F: Files, K: Sink, G: Gate + Sync>(
     _rt: &R,
     alloc: Global,
@@ -179,18 +227,20 @@ pub fn run_plan<R: Wait + Threads + Sync, F: Files, K: Sink, G: Gate + Sync>(
         (F.last files.old) (K.taken out.old) (K.faults out.old))
         (outside (told_by (F.tells files.new) (F.told files.new)) (F.faults files.new)
         (F.last files.new) (K.taken out.new) (K.faults out.new)) plan.now f }
-    // Where told files have a first fault and no call on files fails, it's the answer, unless memory runs out.
+    // Where told files have a first fault and no call on files fails, it's the answer, unless memory
+    // runs out.
     ensures exact { (f : Fault) → FilesTell (told_by (F.tells files.old) (F.told files.old))
-        plan.now (Some f) → ¬ Rose (F.faults files.old) (F.faults files.new)
+        plan.now (Err f) → ¬ Rose (F.faults files.old) (F.faults files.new)
         → (result ≡ status_of f) ⊎ (result ≡ Status.Memory) }
     // Where told files have none and no call fails, the run ends well, unless memory runs out.
-    ensures complete { FilesTell (told_by (F.tells files.old) (F.told files.old)) plan.now None
-        → ¬ Rose (F.faults files.old) (F.faults files.new)
+    ensures complete { (s : Known) → FilesTell (told_by (F.tells files.old) (F.told files.old))
+        plan.now (Ok s) → ¬ Rose (F.faults files.old) (F.faults files.new)
         → ¬ Rose (K.faults out.old) (K.faults out.new) → (result ≡ Status.Fine)
         ⊎ (result ≡ Status.Memory) }
 {
+    told_files_settle();
     match run_whole(alloc, plan, files, out) {
         Ok(()) => Status::Fine,
-        Err(fault) => fault.status(),
+        Err(fault) => Status::of(fault),
     }
 }

@@ -6,14 +6,14 @@ ghost use Rattle.std.specs.Prelude.{◌≡◌, ◌⊎◌, ◌↔◌, List, ℕ, 
 ghost use Rattle.std.specs.Process.{exit_status};
 ghost use Rattle.std.specs.Vec.Iter.{into_iter_items};
 ghost use Rattle.nvmet_run.specs.Codes.{code_of, status_of};
-ghost use Rattle.nvmet_run.specs.Commands.{plan_named};
-ghost use Rattle.nvmet_run.specs.Headline.{Ran, told_by};
-ghost use Rattle.nvmet_run.specs.Outsides.{files_view, sink_view, outside, Said};
+ghost use Rattle.nvmet_run.specs.Commands.{said, said_by};
+ghost use Rattle.nvmet_run.specs.Headline.{Ran};
 ghost use Rattle.nvmet_run.specs.Refusals.{Refusal};
-ghost use Rattle.nvmet_run.specs.declared.status.Fault.{Fault};
+ghost use Rattle.run_outcomes.specs.Outsides.{told_by, files_view, sink_view, outside, Said};
+ghost use Rattle.run_outcomes.specs.declared.faults.Fault.{Fault};
 ghost use Rattle.nvmetd_program.specs.Words.{given_words, LacksMemory, memory_line};
 
-use nvmet_run::{Status, command};
+use nvmet_run::{Status, Verb, command};
 use plan_files::{Files, Gate, HostFiles, HostSink, OpenGate, Sink};
 use std::alloc::{AllocError, Global};
 use std::env::{Args, Env, args};
@@ -22,7 +22,7 @@ use std::sync::Wait;
 use std::thread::Threads;
 use std::{io, rt};
 
-/// The exit status of a program whose command ended so: 0 to 6 in the order of the variants.
+/// The exit status of a program whose command ended so: 0 to 7 in the order of the variants.
 pub fn exit_code(status: &Status) -> ExitCode
     ensures { exit_status result ≡ code_of status.now }
 {
@@ -74,14 +74,14 @@ pub fn answer<R: Wait + Threads + Sync, F: Files, K: Sink, G: Gate + Sync>(
 ) -> Status
     // It ends well only where the words name a plan and the run theorem holds of it.
     ensures fine { result ≡ Status.Fine → IsOkAnd words (λ v. (plan : List ℕ)
-        × (plan_named v.items ≡ Some plan)
+        × (said_by v.items ≡ Some (said Verb.Run plan))
         × Ran (told_by (F.tells files.old) (F.told files.old))
         (told_by (F.tells files.new) (F.told files.new)) (K.taken out.old) (K.taken out.new) plan) }
     // The words are no command, and there was memory for them.
-    ensures usage { (result ≡ Status.Usage) ↔ IsOkAnd words (λ v. plan_named v.items ≡ None) }
+    ensures usage { (result ≡ Status.Usage) ↔ IsOkAnd words (λ v. said_by v.items ≡ None) }
     // Another status has its cause in the run of the plan that the words name.
     ensures refused { (f : Fault) → result ≡ status_of f → IsErr words ⊎ IsOkAnd words (λ v. (plan : List ℕ)
-        × (plan_named v.items ≡ Some plan)
+        × (said_by v.items ≡ Some (said Verb.Run plan))
         × Refusal
         (outside (told_by (F.tells files.old) (F.told files.old)) (F.faults files.old)
         (F.last files.old) (K.taken out.old) (K.faults out.old))

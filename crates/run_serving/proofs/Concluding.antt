@@ -10,10 +10,16 @@ use Rattle.plan_files.specs.declared.items.Plan.{Plan}
 use Rattle.plan_files.specs.Capsules.{Capsule}
 use Rattle.configfs_rows.specs.declared.namespaces.Phase.{Phase}
 use Rattle.configfs_tree.specs.Phases.{phase_at}
+use Rattle.configfs_tree.specs.declared.configuration.Configuration.{Configuration}
+use Rattle.sqe_cqe.specs.declared.sqe.Sqe.{Sqe}
+use Rattle.fabrics_connect.specs.declared.answer.Answer.{Answer}
+use Rattle.fabrics_connect.specs.declared.answer.Answer.TheVariants.{Refused, Makes, Joins, Reads, Sets}
+use Rattle.fabrics_connect.specs.After.{tree_after}
+use Rattle.tree_target.specs.Controls.{after_control, answer_on}
 use Rattle.tree_target.specs.Kept.{Kept}
-use Rattle.tree_target.specs.Model.{Call, Submit, Execute, Poll, Control, AnEdit, DrainEnd, Entry, Target, binding_at, caller_of}
-use Rattle.tree_target.specs.Steps.{target_after, is_draining_phase}
-use Rattle.tree_target.specs.Fixed.{Desk, QueuesLeaveDesk, is_editors}
+use Rattle.tree_target.specs.Model.{Binding, Call, Submit, Execute, Poll, Control, AnEdit, DrainEnd, Entry, Target, binding_at, caller_of}
+use Rattle.tree_target.specs.Steps.{changed, target_after, is_draining_phase}
+use Rattle.tree_target.specs.Fixed.{Desk, QueuesLeaveDesk, desk, is_editors}
 use Rattle.tree_target.specs.Held.{BindingsAreOwn}
 use Rattle.tree_target.specs.Legal.{IsLegal, after}
 use Rattle.tree_target.specs.Stands.{StandsFor}
@@ -58,18 +64,40 @@ round_legal Size final queue (f ∷ files) (l ∷ lists) t (g ∷ groups) r =
 abbrev PhasesStay : Target → Target → Type 0
 PhasesStay t u = (sub : List ℕ) (nsid : ℕ) → phase_at u.tree sub nsid ≡ phase_at t.tree sub nsid
 
+-- a fabrics command attaches controllers at the most
+tree_phases : (t : Configuration) (a : Answer) (sub : List ℕ) (nsid : ℕ)
+    → phase_at (tree_after t a) sub nsid ≡ phase_at t sub nsid
+unfolding tree_after
+tree_phases t (Refused fault) sub nsid = refl
+tree_phases t (Makes bound host) sub nsid = refl
+tree_phases t (Joins bound) sub nsid = refl
+tree_phases t (Reads value) sub nsid = refl
+tree_phases t (Sets value) sub nsid = refl
+
+control_phases : (t : Target) (queue : ℕ) (e : Sqe) (payload : List ℕ) (b : Option Binding)
+    → PhasesStay t (after_control t queue e payload b)
+control_phases t queue e payload None sub nsid = refl
+control_phases t queue e payload (Some b) sub nsid = tree_phases t.tree (answer_on t e payload b) sub
+    nsid
+
+control_leaves : (t : Target) (queue n : ℕ) (e : Sqe) (payload : List ℕ)
+    → PhasesStay t (target_after t (Control queue n e payload))
+unfolding changed
+control_leaves t queue n e payload = control_phases t queue e payload (binding_at t queue)
+
 module _ (leaves : QueuesLeaveDesk) where
-  no_editor : (call : Call) → caller_of call ≢ 0 → is_editors call ≡ false
-  no_editor (Submit queue n e) ne = refl
-  no_editor (Execute queue n payload) ne = refl
-  no_editor (Poll queue) ne = refl
-  no_editor (Control queue n e payload) ne = refl
-  no_editor (AnEdit line e) ne = absurd (ne refl)
-  no_editor (DrainEnd line sub nsid) ne = absurd (ne refl)
+  leaves_phases : (t : Target) (call : Call) → is_editors call ≡ false
+      → PhasesStay t (target_after t call)
+  leaves_phases t call own sub nsid =
+      ap (λ (d : Desk). phase_at d.tree sub nsid) (leaves t call own)
 
   one_leaves : (t : Target) (call : Call) → caller_of call ≢ 0 → PhasesStay t (target_after t call)
-  one_leaves t call ne sub nsid =
-      ap (λ (d : Desk). phase_at d.tree sub nsid) (leaves t call (no_editor call ne))
+  one_leaves t (Submit queue n e) ne = leaves_phases t (Submit queue n e) refl
+  one_leaves t (Execute queue n payload) ne = leaves_phases t (Execute queue n payload) refl
+  one_leaves t (Poll queue) ne = leaves_phases t (Poll queue) refl
+  one_leaves t (Control queue n e payload) ne = control_leaves t queue n e payload
+  one_leaves t (AnEdit line e) ne = absurd (ne refl)
+  one_leaves t (DrainEnd line sub nsid) ne = absurd (ne refl)
 
   group_leaves : (final : Bool) (queue : ℕ) (file : List Capsule) (p : Progress) (t : Target)
       (group : List Entry) → 1 ≤ queue → AreNext final queue file p t group

@@ -4,6 +4,7 @@ pub mod Making
 pub mod Nexts
 pub mod Calling
 pub mod Filing
+pub mod Fewer
 pub mod Polling
 pub mod Turning
 pub mod Scripting

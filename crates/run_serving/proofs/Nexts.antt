@@ -278,11 +278,6 @@ pub final_ends : (t : Target) (queue n : ℕ) (file : List Capsule) (p : Progres
 final_ends t queue n file p reply bytes k is ok done =
     polling_ends t queue n file p reply bytes k is ok done
 
--- no event comes yet
-pub polls_end : (t : Target) (queue : ℕ) → EndsWithin 5 t queue
-unfolding reply_of
-polls_end t queue = inl refl
-
 -- nothing is polled for ever
 pub polled_out : (t : Target) (queue : ℕ) (file : List Capsule) (p : Progress)
     → IsPolling 0 t queue file p → ⊥

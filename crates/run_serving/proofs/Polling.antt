@@ -9,7 +9,8 @@ use Rattle.run_transcript.specs.Turns.{Progress}
 use Rattle.run_serving.specs.declared.output.Output.{Output}
 use Rattle.run_serving.specs.Goes.{HasAll, HasEnded, HasPolled, IsPolling, Makes, ServesFinal}
 use Rattle.run_serving.proofs.Making.{makes_none, makes_both, makes_by}
-use Rattle.run_serving.proofs.Nexts.{admin_is, admin_ready, nothing_left, polls_end, polled_out}
+use Rattle.run_serving.proofs.Nexts.{admin_is, admin_ready, nothing_left, polled_out}
+use Rattle.run_serving.proofs.Fewer.{polls_end}
 
 module _ (queue : ℕ) (file : List Capsule) (k : Kept) (o : Output) (n : ℕ) where
   -- a queue that isn't a connected admin queue makes none

@@ -125,45 +125,48 @@ journal run = journal_text (length run.history) (journal_lines run.editor)
 
 -- ---- the summary
 unfoldable pub places_line : ℕ → List ℕ
-places_line n = codes "places " ++ decimal n ++ 10 ∷ []
+places_line n = codes "places " ++ decimal n ++ codes "\n"
 
 unfoldable pub edits_line : ℕ → ℕ → List ℕ
 edits_line accepted refused = codes "edits " ++ decimal accepted ++ codes " accepted "
-    ++ decimal refused ++ codes " refused" ++ 10 ∷ []
+    ++ decimal refused ++ codes " refused\n"
 
 unfoldable pub drains_line : ℕ → List ℕ
-drains_line n = codes "drains " ++ decimal n ++ 10 ∷ []
+drains_line n = codes "drains " ++ decimal n ++ codes "\n"
 
 unfoldable pub commands_line : ℕ → ℕ → ℕ → List ℕ
 commands_line submitted executed refused = codes "commands " ++ decimal submitted
     ++ codes " submitted " ++ decimal executed ++ codes " executed " ++ decimal refused
-    ++ codes " refused" ++ 10 ∷ []
+    ++ codes " refused\n"
 
 unfoldable pub events_line : ℕ → ℕ → List ℕ
 events_line answered waiting = codes "events " ++ decimal answered ++ codes " answered "
-    ++ decimal waiting ++ codes " waiting" ++ 10 ∷ []
+    ++ decimal waiting ++ codes " waiting\n"
 
 unfoldable pub bytes_line : ℕ → ℕ → List ℕ
 bytes_line taken given = codes "bytes " ++ decimal taken ++ codes " in " ++ decimal given
-    ++ codes " out" ++ 10 ∷ []
+    ++ codes " out\n"
 
 unfoldable pub config_line : ℕ → List ℕ
-config_line n = codes "config " ++ decimal n ++ codes " passed over" ++ 10 ∷ []
+config_line n = codes "config " ++ decimal n ++ codes " passed over\n"
 
 -- what all queues did
 abbrev pub all_queues : Run → List Placed
 all_queues run = flat_map (λ list. list) run.queues
 
--- The seven lines. Edits and drains are counted by the journal's lines; an event request that no
--- event answered is counted as waiting.
+-- the seven lines: places; edits; drains; commands; events, of which those that wait are event
+-- requests that no event answered; bytes; what a configuration passes over
+abbrev pub summary_of : ℕ → ℕ → ℕ → ℕ → ℕ → ℕ → ℕ → ℕ → ℕ → ℕ → ℕ → ℕ → List ℕ
+summary_of places accepted refused drains submitted executed failed events waiting taken given
+    passed_over =
+    places_line places ++ edits_line accepted refused ++ drains_line drains
+    ++ commands_line submitted executed failed ++ events_line events (waiting - events)
+    ++ bytes_line taken given ++ config_line passed_over
+
+-- Edits and drains are counted by the lines of the journal, the rest by the records of all queues.
 unfoldable pub summary : Run → List ℕ
-summary run =
-    places_line (length run.history)
-    ++ edits_line (accepted_in run.editor) (refused_edits_in run.editor)
-    ++ drains_line (drains_in run.editor)
-    ++ commands_line (submits_in (all_queues run)) (executes_in (all_queues run))
-    (refusals_in (all_queues run))
-    ++ events_line (events_in (all_queues run))
-    (waiting_in (all_queues run) - events_in (all_queues run))
-    ++ bytes_line (bytes_taken (all_queues run)) (bytes_given (all_queues run))
-    ++ config_line run.passed_over
+summary run = summary_of (length run.history) (accepted_in run.editor)
+    (refused_edits_in run.editor) (drains_in run.editor) (submits_in (all_queues run))
+    (executes_in (all_queues run)) (refusals_in (all_queues run)) (events_in (all_queues run))
+    (waiting_in (all_queues run)) (bytes_taken (all_queues run)) (bytes_given (all_queues run))
+    run.passed_over

@@ -69,6 +69,8 @@ executed_on k t queue number payload h is st = record {
         blocks = ap (worked h.job payload) st.blocks;
         bindings = st.bindings;
         held = ap (without (is_command queue number)) st.held;
+        events = st.events;
+        stamps = st.stamps;
       });
 }
 
@@ -133,6 +135,8 @@ executed_is_kept k room queue number payload h s e asked =
       few_disks = omega (arith, len, few);
       few_queues = s.few_queues;
       room = s.room;
+      joined = s.joined;
+      states = s.states;
     }
 
 -- ---- what it leaves to other queues

@@ -6,6 +6,14 @@ use Rattle.mem_bdev.specs.Blocks.{Blocks}
 use Rattle.sqe_cqe.specs.declared.sqe.Sqe.{Sqe}
 use Rattle.sqe_cqe.specs.declared.rows.NsRow.{NsRow}
 use Rattle.sqe_cqe.specs.declared.rows.Seen.TheVariants.{NotConfigured, Off, On}
+use Rattle.sqe_cqe.specs.declared.controllers.Bound.{Bound as PlacedBound}
+use Rattle.sqe_cqe.specs.declared.controllers.ControllerRow.{ControllerRow}
+use Rattle.sqe_cqe.specs.Answers.{View}
+use Rattle.async_events.specs.declared.events.Events.{Events}
+use Rattle.admin_commands.specs.declared.admit.AdminReply.{AdminReply}
+use Rattle.admin_commands.specs.declared.admit.AdminReply.TheVariants as admin
+use Rattle.admin_commands.specs.Admin.{admin_reply, admin_bytes}
+use Rattle.fabrics_connect.specs.Checks.{numbered}
 use Rattle.io_commands.specs.declared.jobs.Job.{Job}
 use Rattle.io_commands.specs.declared.jobs.Admit.{Admit}
 use Rattle.io_commands.specs.declared.jobs.Admit.TheVariants.{Refused, Run}
@@ -19,7 +27,8 @@ use Rattle.tree_target.specs.declared.calls.Reply.TheVariants as replies
 use Rattle.tree_target.specs.Edits.{outcome}
 use Rattle.tree_target.specs.Model.{Call, Submit, Execute, Poll, Control, AnEdit, DrainEnd, Bound, Binding, Target, is_command, held_at, binding_at}
 use Rattle.tree_target.specs.Views.{space_in, row_of, on_blocks, on_disk, seen_of, subsystem_named, view_at}
-use Rattle.tree_target.specs.Admission.{Admission, Completes, Waits, Holds as HoldsJob, of_admit, of_qid, of_bound, of_binding, admission}
+use Rattle.tree_target.specs.Admission.{Admission, Completes, Waits, Holds as HoldsJob, of_reply, events_numbered, as_bound, of_controller, of_admit, of_qid, of_bound, of_binding, admission}
+use Rattle.tree_target.specs.Controls.{placed_bound, after_control}
 use Rattle.tree_target.specs.Steps.{reply_of, changed, target_after, without, after_submit, after_execute, after_edit, submitted, command_of}
 use Rattle.tree_target.specs.Held.{held_by, held_disk, TakesOne, HeldBy, HeldChange, IsShown}
 use Rattle.tree_target.proofs.HeldList.{no_command, some_is, both_true, eqb_is}
@@ -90,6 +99,11 @@ execute_held t queue number payload (Some h) e lawful =
       held = s.now;
     }
 
+control_held : (t : Target) (queue : ℕ) (e : Sqe) (payload : List ℕ) (b : Option Binding)
+    → (after_control t queue e payload b).held ≡ t.held
+control_held t queue e payload None = refl
+control_held t queue e payload (Some b) = refl
+
 edit_held : (t : Target) (o : Outcome) → (after_edit t o).held ≡ t.held
 edit_held t (Refuses errno) = refl
 edit_held t (Accepts u c) = refl
@@ -128,7 +142,8 @@ held_change t (Execute queue number payload) = λ lawful.
     (target_after t (Execute queue number payload)) queue number refl
     (execute_held t queue number payload (held_at t queue number) refl lawful)
 held_change t (Poll queue) = refl
-held_change t (Control queue number e payload) = refl
+held_change t (Control queue number e payload) =
+    control_held t queue e payload (binding_at t queue)
 held_change t (AnEdit line e) = edit_held t (outcome t.tree e)
 held_change t (DrainEnd line sub nsid) = refl
 
@@ -185,10 +200,25 @@ run_of : (a : Admit) (disk : ℕ) → held_by (of_admit a) ≡ Some disk → Run
 run_of (Refused status) disk e = absurd (no_number disk e)
 run_of (Run job) disk e = record { job = job; run = refl; on = some_number (disk_of job) disk e }
 
+-- a command of an admin queue is never held
+reply_holds_none : (bytes : List ℕ) (r : AdminReply) → held_by (of_reply bytes r) ≡ None
+reply_holds_none bytes (admin.Completes status result) = refl
+reply_holds_none bytes admin.Waits = refl
+
+admin_holds_none : (v : View) (b : PlacedBound) (e : Sqe) (c : Option ControllerRow)
+    (o : Option Events) → held_by (of_controller v b e c o) ≡ None
+admin_holds_none v b e None o = refl
+admin_holds_none v b e (Some c) None = refl
+admin_holds_none v b e (Some c) (Some o) =
+    reply_holds_none (admin_bytes v (as_bound b c) o e) (admin_reply v o e)
+
 module _ (law : AdmittedIsOnSeen) where
   qid_shown : (t : Target) (e : Sqe) (port : ℕ) (b : Bound) (qid disk : ℕ)
       → held_by (of_qid t e port b qid) ≡ Some disk → IsShown t.tree disk
-  qid_shown t e port b zero disk is = absurd (no_number disk is)
+  qid_shown t e port b zero disk is =
+      absurd (no_number disk (sym (admin_holds_none (view_at t port b)
+      (placed_bound t.tree port b) e (numbered t.controllers b.controller)
+      (events_numbered t.events b.controller)) ∙ is))
   qid_shown t e port b (suc q) disk is =
       let r = run_of (io_admission (view_at t port b) e) disk is in
       let a = law (view_at t port b) e r.job r.run in

@@ -40,7 +40,12 @@ use Rattle.configfs_tree.specs.Table.{mkdir_host, mkdir_subsystem, mkdir_namespa
 use Rattle.configfs_tree.proofs.Holds.{Holds, accepted, refuses, holds_row, holds_end, holds_last, holds_either, holds_unless, holds_if_subsystem, holds_if_rows, holds_if_port, holds_if_group, holds_parsed}
 use Rattle.tree_target.specs.declared.calls.Command.{Command}
 use Rattle.tree_target.specs.Edits.{Edit, outcome}
-use Rattle.tree_target.specs.Model.{Call, Submit, Execute, Poll, Control, AnEdit, DrainEnd, Target}
+use Rattle.sqe_cqe.specs.declared.sqe.Sqe.{Sqe}
+use Rattle.fabrics_connect.specs.declared.answer.Answer.{Answer}
+use Rattle.fabrics_connect.specs.declared.answer.Answer.TheVariants.{Refused, Makes, Joins, Reads, Sets}
+use Rattle.fabrics_connect.specs.After.{tree_after}
+use Rattle.tree_target.specs.Model.{Call, Submit, Execute, Poll, Control, AnEdit, DrainEnd, Binding, Target, binding_at}
+use Rattle.tree_target.specs.Controls.{answer_on, after_control}
 use Rattle.tree_target.specs.Views.{space_in}
 use Rattle.tree_target.specs.Steps.{is_lawful, changed, target_after, after_edit, disk_of_space, disk_at, is_draining_phase, is_on, none_on}
 use Rattle.tree_target.specs.Fixed.{Desk, is_editors}
@@ -324,6 +329,21 @@ drain_keeps : (t : Configuration) (held : List Command) (sub : List ℕ) (nsid i
 drain_keeps t held sub nsid i h st free busy e =
     sub_frees t held sub nsid (map.get t.settings.subsystems sub) i h st refl free busy e
 
+-- ---- a fabrics command changes no disk
+answer_keeps : (t : Configuration) (a : Answer) → Keeps t (tree_after t a)
+unfolding tree_after
+answer_keeps t (Refused fault) i h e = e
+answer_keeps t (Makes bound host) i h e = e
+answer_keeps t (Joins bound) i h e = e
+answer_keeps t (Reads value) i h e = e
+answer_keeps t (Sets value) i h e = e
+
+control_keeps : (t : Target) (queue : ℕ) (e : Sqe) (payload : List ℕ) (b : Option Binding)
+    → Keeps t.tree (after_control t queue e payload b).tree
+control_keeps t queue e payload None i h is = is
+control_keeps t queue e payload (Some b) i h is =
+    answer_keeps t.tree (answer_on t e payload b) i h is
+
 -- ---- the law
 queue_keeps : (t : Target) (call : Call) (i : ℕ) (h : Holder) → is_editors call ≡ false
     → holder_at t.tree i ≡ Some h → holder_at (target_after t call).tree i ≡ Some h
@@ -339,7 +359,8 @@ keeps_holder t (Submit queue number e) disk h st lawful busy is =
 keeps_holder t (Execute queue number payload) disk h st lawful busy is =
     queue_keeps t (Execute queue number payload) disk h refl is
 keeps_holder t (Poll queue) disk h st lawful busy is = is
-keeps_holder t (Control queue number e payload) disk h st lawful busy is = is
+keeps_holder t (Control queue number e payload) disk h st lawful busy is =
+    control_keeps t queue e payload (binding_at t queue) disk h is
 keeps_holder t (AnEdit line e) disk h st lawful busy is =
     after_keeps t (outcome t.tree e) (edit_keeps t.tree e) disk h is
 keeps_holder t (DrainEnd line sub nsid) disk h st lawful busy is =

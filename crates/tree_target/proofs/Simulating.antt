@@ -17,13 +17,15 @@ use Rattle.configfs_tree.specs.Drained.{freed_path, freed_by, drained}
 use Rattle.configfs_tree.specs.NamespaceRows.{rows_of}
 use Rattle.configfs_tree.specs.Outcome.{Refuses, Accepts}
 use Rattle.configfs_tree.specs.Stays.{is_subsystem_attached, is_port_attached, Stays}
+use Rattle.change_stamps.specs.Stamps.{Stamps, stamps_after}
 use Rattle.tree_target.specs.declared.calls.Command.{Command}
 use Rattle.tree_target.specs.declared.calls.Reply.TheVariants as replies
 use Rattle.tree_target.specs.Edits.{Edit, outcome}
-use Rattle.tree_target.specs.Model.{Call, Poll, AnEdit, DrainEnd, Bound, Binding, Target}
+use Rattle.tree_target.specs.Model.{Call, AnEdit, DrainEnd, Bound, Binding, Target}
 use Rattle.tree_target.specs.Steps.{reply_of, bytes_of, changed, target_after, after_edit, edited, may_end}
 use Rattle.tree_target.specs.Kept.{Kept, IsKept, LeavesOthers}
-use Rattle.tree_target.specs.Stands.{IsBound, IsBoundAs, AreBound, StandsFor, Simulates, reply_from}
+use Rattle.tree_target.specs.Stands.{IsBound, IsBoundAs, AreBound, StandsFor, Simulates, noted_by, reply_from}
+use Rattle.tree_target.proofs.Joining.{joined_along}
 
 -- ---- bindings go along with a tree that keeps what controllers are attached to
 attached_sub : (t u : Configuration) (at : ℕ) → u.settings.attached ≡ t.settings.attached
@@ -73,12 +75,15 @@ stands_after k t t' call e st = record {
   bindings = subst (λ (b : List Binding). AreBound k.tree k.bindings b)
       (ap (λ (x : Target). x.bindings) (sym e)) st.bindings;
   held = ap (λ (x : Target). x.held) e ∙ st.held;
+  events = ap (λ (x : Target). x.events) e ∙ st.events;
+  stamps = ap (λ (x : Target). x.stamps) e ∙ st.stamps;
 }
 
 -- ---- what is left to the queues where bindings, held commands and disks stay
 
-pub tree_leaves : (k : Kept) (u : Configuration) → LeavesOthers 0 k (record k { tree = u })
-tree_leaves k u = record {
+pub tree_leaves : (k : Kept) (u : Configuration) (s : Stamps)
+    → LeavesOthers 0 k (record k { tree = u; stamps = s })
+tree_leaves k u s = record {
   queues = refl;
   bindings = λ q ne. refl;
   idle = λ q ne h. h;
@@ -101,7 +106,8 @@ all_left k queue = record {
 -- ---- edits
 accepted_does : (k : Kept) (line : ℕ) (e : Edit) (u : Configuration) (change : Change)
     → outcome k.tree e ≡ Accepts u change → Stays k.tree u
-    → Simulates k (AnEdit line e) replies.Accepted [] (record k { tree = u })
+    → Simulates k (AnEdit line e) replies.Accepted []
+    (record k { tree = u; stamps = stamps_after change k.stamps })
 unfolding reply_of bytes_of changed
 accepted_does k line e u change g stays t st =
     let o : outcome t.tree e ≡ Accepts u change = ap (λ (x : Configuration). outcome x e) st.tree
@@ -110,7 +116,8 @@ accepted_does k line e u change g stays t st =
       lawful = refl;
       reply_is = ap edited o;
       bytes_are = refl;
-      stands = stands_after (record k { tree = u }) t (record t { tree = u }) (AnEdit line e)
+      stands = stands_after (record k { tree = u; stamps = stamps_after change k.stamps }) t
+          (record t { tree = u; stamps = stamps_after change t.stamps }) (AnEdit line e)
           (ap (after_edit t) o)
           (record {
             tree = refl;
@@ -118,6 +125,8 @@ accepted_does k line e u change g stays t st =
             blocks = st.blocks;
             bindings = are_bound_along k.tree u k.bindings t.bindings stays st.bindings;
             held = st.held;
+            events = st.events;
+            stamps = ap (stamps_after change) st.stamps;
           });
     }
 
@@ -140,7 +149,8 @@ same_tree k u e = ap (λ (x : Configuration). record k { tree = x }) e
 pub edit_does : (k : Kept) (line : ℕ) (e : Edit) (grows : _) (r : Result Change Refused)
     (u : Configuration) → Gives grows (outcome k.tree e) k.tree r u
     → IfOk r (λ _. Stays k.tree u)
-    → IfOk (reply_from r) (λ reply. Simulates k (AnEdit line e) reply [] (record k { tree = u }))
+    → IfOk (reply_from r) (λ reply. Simulates k (AnEdit line e) reply []
+    (record k { tree = u; stamps = noted_by r k.stamps }))
 edit_does k line e grows (Ok change) u g s = accepted_does k line e u change g s
 edit_does k line e grows (Err (refused.Errno errno)) u g s =
     subst (λ (x : Kept). Simulates k (AnEdit line e) (replies.Errno errno) [] x)
@@ -148,25 +158,43 @@ edit_does k line e grows (Err (refused.Errno errno)) u g s =
 edit_does k line e grows (Err refused.Memory) u g s = tt
 
 pub edit_same : (k : Kept) (e : Edit) (grows : _) (r : Result Change Refused) (u : Configuration)
-    → Gives grows (outcome k.tree e) k.tree r u → OnErr (reply_from r) (record k { tree = u } ≡ k)
+    → Gives grows (outcome k.tree e) k.tree r u
+    → OnErr (reply_from r) (record k { tree = u; stamps = noted_by r k.stamps } ≡ k)
 edit_same k e grows (Ok change) u g = tt
 edit_same k e grows (Err (refused.Errno errno)) u g = tt
 edit_same k e grows (Err refused.Memory) u g = same_tree k u g.0
 
 pub edit_leaves : (k : Kept) (r : Result Change Refused) (u : Configuration)
-    → IfOk (reply_from r) (λ _. LeavesOthers 0 k (record k { tree = u }))
-edit_leaves k (Ok change) u = tree_leaves k u
-edit_leaves k (Err (refused.Errno errno)) u = tree_leaves k u
+    → IfOk (reply_from r) (λ _. LeavesOthers 0 k
+    (record k { tree = u; stamps = noted_by r k.stamps }))
+edit_leaves k (Ok change) u = tree_leaves k u (stamps_after change k.stamps)
+edit_leaves k (Err (refused.Errno errno)) u = tree_leaves k u k.stamps
 edit_leaves k (Err refused.Memory) u = tt
 
-pub tree_kept : (k : Kept) (room : ℕ) (u : Configuration) → IsKept k room
-    → IsKept (record k { tree = u }) room
-tree_kept k room u s = record {
+-- another tree with the same attached controllers
+pub tree_kept : (k : Kept) (room : ℕ) (u : Configuration) (stamps : Stamps)
+    → u.settings.attached ≡ k.tree.settings.attached → IsKept k room
+    → IsKept (record k { tree = u; stamps = stamps }) room
+tree_kept k room u stamps e s = record {
   holds = s.holds;
   few_disks = s.few_disks;
   few_queues = s.few_queues;
   room = s.room;
+  joined = joined_along k.tree u k.controllers k.bindings e s.joined;
+  states = s.states;
 }
+
+-- after an edit, whatever it answers
+pub edit_kept : (k : Kept) (room : ℕ) (e : Edit) (grows : _) (r : Result Change Refused)
+    (u : Configuration) → Gives grows (outcome k.tree e) k.tree r u
+    → IfOk r (λ _. Stays k.tree u) → IsKept k room
+    → IsKept (record k { tree = u; stamps = noted_by r k.stamps }) room
+edit_kept k room e grows (Ok change) u g s h =
+    tree_kept k room u (stamps_after change k.stamps) s.attached h
+edit_kept k room e grows (Err (refused.Errno errno)) u g s h =
+    tree_kept k room u k.stamps (ap (λ (x : Configuration). x.settings.attached) g.1) h
+edit_kept k room e grows (Err refused.Memory) u g s h =
+    tree_kept k room u k.stamps (ap (λ (x : Configuration). x.settings.attached) g.0) h
 
 -- ---- the end of a drain
 freed_path_settings : (t : Configuration) (q : Option (List ℕ)) → (freed_path t q).settings
@@ -198,6 +226,11 @@ same_settings t u e = record {
   };
 }
 
+pub drained_kept : (k : Kept) (room : ℕ) (sub : List ℕ) (nsid : ℕ) → IsKept k room
+    → IsKept (record k { tree = drained k.tree sub nsid }) room
+drained_kept k room sub nsid h = tree_kept k room (drained k.tree sub nsid) k.stamps
+    (ap (λ (s : Settings). s.attached) (drained_settings k.tree sub nsid)) h
+
 pub drained_does : (k : Kept) (line : ℕ) (sub : List ℕ) (nsid : ℕ)
     → IsTrue (may_end k.tree k.held sub nsid)
     → Simulates k (DrainEnd line sub nsid) replies.Ended [] (record k {
@@ -217,15 +250,7 @@ drained_does k line sub nsid may t st = record {
         (same_settings k.tree (drained k.tree sub nsid) (drained_settings k.tree sub nsid))
         st.bindings;
     held = st.held;
+    events = st.events;
+    stamps = st.stamps;
   };
-}
-
--- ---- a poll
-pub polled_does : (k : Kept) (queue : ℕ) → Simulates k (Poll queue) replies.NoEvent [] k
-unfolding reply_of bytes_of changed
-polled_does k queue t st = record {
-  lawful = refl;
-  reply_is = refl;
-  bytes_are = refl;
-  stands = stands_after k t t (Poll queue) refl st;
 }

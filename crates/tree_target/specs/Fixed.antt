@@ -1,13 +1,15 @@
 -- What changes of the configuration, by which calls, and what an edit's outcome depends on.
 use Rattle.std.specs.Prelude.{◌≡◌, ℕ, Bool, true, false, List, [], ◌∷◌}
 use Rattle.sqe_cqe.specs.declared.controllers.ControllerRow.{ControllerRow}
+use Rattle.change_stamps.specs.Stamps.{Stamps}
 use Rattle.configfs_tree.specs.declared.configuration.Settings.{Settings}
 use Rattle.configfs_tree.specs.declared.configuration.Configuration.{Configuration}
 use Rattle.configfs_tree.specs.Outcome.{Outcome, Refuses, Accepts}
 use Rattle.configfs_tree.specs.Standing.{IsStanding}
 use Rattle.configfs_tree.specs.Stays.{Stays}
 use Rattle.tree_target.specs.Edits.{Edit, outcome}
-use Rattle.tree_target.specs.Model.{Call, Submit, Execute, Poll, Control, AnEdit, DrainEnd, Target}
+use Rattle.tree_target.specs.Model.{Call, Submit, Execute, Poll, Control, AnEdit, DrainEnd, Target, binding_at}
+use Rattle.tree_target.specs.Controls.{publishes}
 use Rattle.tree_target.specs.Steps.{reply_of, target_after}
 use Rattle.tree_target.specs.Legal.{after}
 
@@ -15,18 +17,24 @@ use Rattle.tree_target.specs.Legal.{after}
 pub record Fixed : Type 0 where
   pub settings : Settings
   pub controllers : List ControllerRow
+  pub stamps : Stamps
 
 abbrev pub fixed : Target → Fixed
-fixed t = record { settings = t.tree.settings; controllers = t.controllers }
+fixed t = record {
+  settings = t.tree.settings;
+  controllers = t.controllers;
+  stamps = t.stamps;
+}
 
--- what the editor alone changes: the configuration with the holders of disks, and the controllers.
--- Edits, ends of drains and published fabrics commands get their places there
+-- what the editor alone changes: the configuration with the holders of disks, the controllers, and
+-- the serials of last changes
 pub record Desk : Type 0 where
   pub tree : Configuration
   pub controllers : List ControllerRow
+  pub stamps : Stamps
 
 abbrev pub desk : Target → Desk
-desk t = record { tree = t.tree; controllers = t.controllers }
+desk t = record { tree = t.tree; controllers = t.controllers; stamps = t.stamps }
 
 abbrev pub is_published_edit : Outcome → Bool
 is_published_edit (Refuses errno) = false
@@ -37,16 +45,17 @@ unfoldable pub is_published : Target → Call → Bool
 is_published t (Submit queue number e) = false
 is_published t (Execute queue number payload) = false
 is_published t (Poll queue) = false
-is_published t (Control queue number e payload) = false
+is_published t (Control queue number e payload) = publishes t e payload (binding_at t queue)
 is_published t (AnEdit line e) = is_published_edit (outcome t.tree e)
 is_published t (DrainEnd line sub nsid) = false
 
--- the editor's calls
+-- the calls that get their place from the editor: edits, ends of drains, and fabrics commands, whatever
+-- queue brings them
 abbrev pub is_editors : Call → Bool
 is_editors (Submit queue number e) = false
 is_editors (Execute queue number payload) = false
 is_editors (Poll queue) = false
-is_editors (Control queue number e payload) = false
+is_editors (Control queue number e payload) = true
 is_editors (AnEdit line e) = true
 is_editors (DrainEnd line sub nsid) = true
 
@@ -55,7 +64,7 @@ abbrev pub UnpublishedLeaveFixed : Type 0
 UnpublishedLeaveFixed = (t : Target) (call : Call) → IsStanding t.tree
     → is_published t call ≡ false → fixed (target_after t call) ≡ fixed t
 
--- a queue's own call that isn't published leaves all that the editor changes
+-- a submit, an execute and a poll leave all that the editor changes
 abbrev pub QueuesLeaveDesk : Type 0
 QueuesLeaveDesk = (t : Target) (call : Call) → is_editors call ≡ false
     → desk (target_after t call) ≡ desk t

@@ -1,5 +1,5 @@
 -- What the program's target keeps.
-use Rattle.std.specs.Prelude.{◌≡◌, ◌≢◌, ◌≤◌, ◌==◌, ℕ, zero, suc, Bool, true, false, IsTrue, List, [], ◌∷◌, length, Option, Some, None, is_some, slice_get, find}
+use Rattle.std.specs.Prelude.{◌≡◌, ◌≢◌, ◌≤◌, ◌==◌, ◌-◌, ◌++◌, ℕ, zero, suc, Bool, true, false, IsTrue, List, [], ◌∷◌, length, Option, Some, None, is_some, slice_get, find}
 use Rattle.std.specs.List.{AllByRecursion}
 use Rattle.mem_bdev.specs.Blocks.{Blocks}
 use Rattle.mem_bdev.specs.declared.limits.TheConstants.{MAX_TRANSFER}
@@ -8,8 +8,17 @@ use Rattle.sqe_cqe.specs.declared.codes.TheConstants.{SUCCESS, INVALID_OPCODE}
 use Rattle.sqe_cqe.specs.declared.controllers.Bound.{Bound}
 use Rattle.sqe_cqe.specs.declared.controllers.Binding.{Binding}
 use Rattle.sqe_cqe.specs.declared.controllers.ControllerRow.{ControllerRow}
-use Rattle.sqe_cqe.specs.Answers.{view_of}
+use Rattle.sqe_cqe.specs.Answers.{View, view_of}
 use Rattle.sqe_cqe.specs.Sqe.{direction_of, payload_len, host_len}
+use Rattle.sqe_cqe.specs.declared.controllers.Ctrl.{Ctrl}
+use Rattle.sqe_cqe.specs.Connect.{keep_alive_of}
+use Rattle.mem_bdev.specs.Texts.{Text}
+use Rattle.admin_commands.specs.declared.admit.AdminReply.{AdminReply}
+use Rattle.admin_commands.specs.declared.admit.AdminReply.TheVariants as admin
+use Rattle.async_events.specs.declared.events.Events.{Events}
+use Rattle.async_events.specs.Stamps.{begun}
+use Rattle.change_stamps.specs.Stamps.{Stamps}
+use Rattle.admin_commands.specs.Admin.{AdmitsAt, PollsAt}
 use Rattle.io_commands.specs.declared.jobs.Job.{Job}
 use Rattle.io_commands.specs.declared.jobs.Admit.{Admit}
 use Rattle.io_commands.specs.declared.jobs.Admit.TheVariants.{Refused, Run}
@@ -25,6 +34,8 @@ use Rattle.plan_files.specs.Rooms.{data_room}
 use Rattle.tree_target.specs.Model.{is_command}
 use Rattle.tree_target.specs.Steps.{bytes_executed}
 use Rattle.tree_target.specs.Looked.{tree_answers}
+use Rattle.tree_target.specs.Joined.{AreJoined}
+use Rattle.tree_target.specs.Admission.{as_bound}
 
 -- bindings go by positions here
 pub record Kept : Type 0 where
@@ -34,6 +45,10 @@ pub record Kept : Type 0 where
   -- of queues 1, 2, ..
   pub bindings : List Binding
   pub held : List Command
+  -- of the controllers, in the order of their numbers
+  pub events : List Events
+  -- the serials of last changes
+  pub stamps : Stamps
 
 -- ---- queues
 abbrev pub bound_from : Option Binding → Option Bound
@@ -65,13 +80,12 @@ pub record HasQueue (k : Kept) (queue : ℕ) : Type 0 where
   pub high : queue ≤ length k.bindings
 
 -- ---- admission by positions
-abbrev pub by_qid : Kept → Sqe → Bound → ℕ → Admit
-by_qid k e b zero = Refused INVALID_OPCODE
-by_qid k e b (suc q) = io_admission (view_of (tree_answers k.tree k.controllers k.blocks) b) e
+abbrev pub seen_by : Kept → Bound → View
+seen_by k b = view_of (tree_answers k.tree k.controllers k.blocks k.stamps) b
 
 abbrev pub by_bound : Kept → Sqe → Option Bound → Admit
 by_bound k e None = Refused INVALID_OPCODE
-by_bound k e (Some b) = by_qid k e b b.qid
+by_bound k e (Some b) = io_admission (seen_by k b) e
 
 unfoldable pub admission_by : Kept → ℕ → Sqe → Admit
 admission_by k queue e = by_bound k e (bound_in k.bindings queue)
@@ -111,6 +125,8 @@ pub record IsKept (k : Kept) (held_room : ℕ) : Type 0 where
   pub few_disks : length k.blocks ≤ MAX_DISKS
   pub few_queues : length k.bindings ≤ MAX_QUEUES
   pub room : MAX_QUEUES ≤ held_room
+  pub joined : AreJoined k.tree k.controllers k.bindings
+  pub states : length k.events ≡ length k.controllers
 
 abbrev pub is_of : ℕ → Command → Bool
 is_of queue h = h.queue == queue
@@ -198,6 +214,51 @@ abbrev pub is_poll_reply : Reply → Bool
 is_poll_reply (replies.Answered cqe) = true
 is_poll_reply replies.NoEvent = true
 is_poll_reply r = false
+
+-- the reply on the queue with this QID
+abbrev pub reply_with : ℕ → ℕ → AdminReply → Reply
+reply_with qid cid (admin.Completes status result) = replies.Answered (record {
+  result = result;
+  sq_head = 0;
+  sq_id = qid;
+  cid = cid;
+  status = status;
+})
+reply_with qid cid admin.Waits = replies.Waiting
+
+-- a controller as its admin queue is bound to it
+abbrev pub ctrl_for : Bound → Option ControllerRow → Option Ctrl
+ctrl_for b None = None
+ctrl_for b (Some c) = Some (as_bound b c)
+
+-- what a command of an admin queue does: nothing where its controller isn't there
+abbrev pub ServesAdmin : View → Sqe → ℕ → Option Ctrl → List Events → AdminReply → Text → Text
+    → List Events → Type 0
+ServesAdmin v e ctrl None old reply to to' new =
+    (reply ≡ admin.Completes INVALID_OPCODE 0) × (to' ≡ to) × (new ≡ old)
+ServesAdmin v e ctrl (Some c) old reply to to' new = AdmitsAt v c e (ctrl - 1) old reply to to' new
+
+-- a poll of an admin queue: no event where its controller isn't there
+abbrev pub PollsAdmin : View → ℕ → Option Ctrl → List Events → Option (ℕ × ℕ) → List Events
+    → Type 0
+PollsAdmin v ctrl None old event new = (event ≡ None) × (new ≡ old)
+PollsAdmin v ctrl (Some c) old event new = PollsAt v (ctrl - 1) old event new
+
+-- the reply to a poll on the queue with this QID
+abbrev pub event_reply : ℕ → Option (ℕ × ℕ) → Reply
+event_reply qid None = replies.NoEvent
+event_reply qid (Some x) = replies.Answered (record {
+  result = x.1;
+  sq_head = 0;
+  sq_id = qid;
+  cid = x.0;
+  status = SUCCESS;
+})
+
+-- a Connect that made a controller, at this serial, begins its events
+abbrev pub states_made : ℕ → List Events → Sqe → Option Ctrl → List Events
+states_made since old e None = old
+states_made since old e (Some c) = old ++ begun since (keep_alive_of e) ∷ []
 
 -- how many bytes of data for the host a response has room for: as many as the entry names, at most
 -- a transfer

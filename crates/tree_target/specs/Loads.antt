@@ -5,11 +5,12 @@ use Rattle.tree_target.specs.declared.start.LoadError.TheVariants as errors
 use Rattle.mem_bdev.specs.Blocks.{Blocks, blank}
 use Rattle.mem_bdev.specs.declared.disk.DiskLine.{DiskLine}
 use Rattle.sqe_cqe.specs.declared.controllers.Binding.{Binding as CodeBinding}
+use Rattle.change_stamps.specs.Stamps.{no_stamps}
 use Rattle.configfs_tree.specs.declared.configuration.Configuration.{Configuration}
 use Rattle.configfs_tree.specs.declared.edits.Errno.{Errno}
 use Rattle.configfs_tree.specs.Outcome.{Outcome, Refuses, Accepts}
 use Rattle.configfs_tree.specs.Links.{with_no_changes}
-use Rattle.configfs_tree.specs.Start.{empty_tree}
+use Rattle.configfs_tree.specs.Start.{empty_settings, empty_tree}
 use Rattle.tree_target.specs.Edits.{Edit, outcome}
 use Rattle.tree_target.specs.Model.{Binding, Target}
 use Rattle.tree_target.specs.Kept.{Kept}
@@ -21,6 +22,10 @@ blank_of d = blank d.shift d.blocks
 abbrev pub unconnected : ℕ → Binding
 unconnected port = record { port = port; bound = None }
 
+-- no controller is attached
+abbrev pub IsFresh : Configuration → Type 0
+IsFresh t = t.settings.attached ≡ empty_settings.attached
+
 -- no controller yet: disks of zeros, each queue with its port, and no command held
 abbrev pub start_of : Configuration → List DiskLine → List ℕ → Target
 start_of t lines ports = record {
@@ -30,6 +35,7 @@ start_of t lines ports = record {
   bindings = map unconnected ports;
   held = [];
   events = [];
+  stamps = no_stamps;
   history = [];
 }
 
@@ -65,6 +71,8 @@ kept_start t lines ports = record {
   blocks = map blank_of lines;
   bindings = map code_unconnected ports;
   held = [];
+  events = [];
+  stamps = no_stamps;
 }
 
 -- what loading a tree answers

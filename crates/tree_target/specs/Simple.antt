@@ -3,6 +3,8 @@ use Rattle.std.specs.Prelude.{[], ◌∷◌, Some}
 use Rattle.mem_bdev.specs.Blocks.{blank}
 use Rattle.mem_bdev.specs.declared.disk.DiskLine.{DiskLine}
 use Rattle.sqe_cqe.specs.Ready.{simple_rows}
+use Rattle.async_events.specs.Stamps.{begun}
+use Rattle.change_stamps.specs.Stamps.{no_stamps}
 use Rattle.tree_target.specs.Kept.{Kept}
 use Rattle.tree_target.specs.Stands.{StandsFor}
 use Rattle.tree_target.specs.Start.{simple_tree, simple_start}
@@ -17,6 +19,8 @@ kept_simple d = record {
     bound = Some (record { ctrl = 1; qid = 1; sub = 0; port = 0 });
   }) ∷ [];
   held = [];
+  events = begun 0 0 ∷ [];
+  stamps = no_stamps;
 }
 
 -- by positions it stands for that start by names

@@ -7,6 +7,7 @@ use Rattle.configfs_tree.specs.declared.edits.Change.{Change}
 use Rattle.configfs_tree.specs.declared.edits.Refused.{Refused}
 use Rattle.configfs_tree.specs.declared.edits.Refused.TheVariants as refused
 use Rattle.configfs_tree.specs.Stays.{is_subsystem_attached, is_port_attached, SubsystemAt, PortAt}
+use Rattle.change_stamps.specs.Stamps.{Stamps, stamps_after}
 use Rattle.sqe_cqe.specs.declared.controllers.Bound.{Bound as CodeBound}
 use Rattle.sqe_cqe.specs.declared.controllers.Binding.{Binding as CodeBinding}
 use Rattle.tree_target.specs.declared.calls.Reply.{Reply}
@@ -44,6 +45,8 @@ pub record StandsFor (k : Kept) (t : Target) : Type 0 where
   pub blocks : t.blocks ≡ k.blocks
   pub bindings : AreBound k.tree k.bindings t.bindings
   pub held : t.held ≡ k.held
+  pub events : t.events ≡ k.events
+  pub stamps : t.stamps ≡ k.stamps
 
 -- a call was lawful, replied so, gave these bytes and left this target, as the model does
 pub record Does (t : Target) (call : Call) (reply : Reply) (bytes : List ℕ) (k : Kept)
@@ -69,6 +72,11 @@ pub record SubmitsAdmin (old : Kept) (call : Call) (reply : Reply) (to to' : Tex
   pub does : Simulates old call reply bytes new
   pub appends : to' ≡ appended to bytes
   pub short : length bytes ≤ room_of_call call
+
+-- the stamps after an edit: a refused one stamps nothing
+abbrev pub noted_by : Result Change Refused → Stamps → Stamps
+noted_by (Ok change) s = stamps_after change s
+noted_by (Err r) s = s
 
 -- what an edit replies, or want of memory
 abbrev pub reply_from : Result Change Refused → Result Reply AllocError

@@ -4,6 +4,8 @@ use Rattle.std.specs.FinMap as map
 use Rattle.mem_bdev.specs.Blocks.{blank}
 use Rattle.mem_bdev.specs.declared.disk.DiskLine.{DiskLine}
 use Rattle.sqe_cqe.specs.Ready.{simple_rows}
+use Rattle.async_events.specs.Stamps.{begun}
+use Rattle.change_stamps.specs.Stamps.{no_stamps}
 use Rattle.configfs_rows.specs.declared.limits.TheConstants.{MAX_SUBSYSTEMS, MAX_PORTS}
 use Rattle.configfs_rows.specs.declared.subsystems.SubsystemRow.{SubsystemRow}
 use Rattle.configfs_rows.specs.declared.ports.PortRow.{PortRow}
@@ -63,6 +65,7 @@ simple_start d = record {
     bound = Some (record { controller = 1; qid = 1; subsystem = simple_nqn });
   }) ∷ [];
   held = [];
-  events = (record { waiting = [] }) ∷ [];
+  events = begun 0 0 ∷ [];
+  stamps = no_stamps;
   history = [];
 }

@@ -3,7 +3,7 @@
 use Rattle.std.specs.Prelude.{ℕ, ◌==◌, ◌&&◌, not, Bool, true, false, if◌then◌else◌, List, [], ◌∷◌, ◌++◌, Option, Some, None, is_some, slice_get, slice_set}
 use Rattle.std.specs.List.{list_any}
 use Rattle.mem_bdev.specs.Blocks.{Blocks}
-use Rattle.sqe_cqe.specs.declared.codes.TheConstants.{SUCCESS, INVALID_OPCODE}
+use Rattle.sqe_cqe.specs.declared.codes.TheConstants.{SUCCESS}
 use Rattle.io_commands.specs.declared.jobs.Job.{Job}
 use Rattle.io_commands.specs.Jobs.{disk_of, bytes_read, blocks_after}
 use Rattle.configfs_rows.specs.declared.namespaces.NamespaceRow.{NamespaceRow}
@@ -13,13 +13,15 @@ use Rattle.configfs_tree.specs.declared.configuration.Configuration.{Configurati
 use Rattle.configfs_tree.specs.Outcome.{Outcome, Refuses, Accepts}
 use Rattle.configfs_tree.specs.Phases.{phase_at}
 use Rattle.configfs_tree.specs.Drained.{drained}
+use Rattle.change_stamps.specs.Stamps.{stamps_after}
 use Rattle.tree_target.specs.declared.calls.Reply.{Reply}
 use Rattle.tree_target.specs.declared.calls.Reply.TheVariants as replies
 use Rattle.tree_target.specs.declared.calls.Command.{Command}
 use Rattle.tree_target.specs.Edits.{outcome}
-use Rattle.tree_target.specs.Model.{Call, Submit, Execute, Poll, Control, AnEdit, DrainEnd, Entry, Target, held_at, bound_at, qid_of, is_command}
+use Rattle.tree_target.specs.Model.{Call, Submit, Execute, Poll, Control, AnEdit, DrainEnd, Entry, Target, held_at, binding_at, bound_at, qid_of, is_command}
 use Rattle.tree_target.specs.Views.{space_in, subsystem_named}
-use Rattle.tree_target.specs.Admission.{Admission, Completes, Waits, Holds, admission}
+use Rattle.tree_target.specs.Admission.{Admission, Completes, Waits, Holds, admission, events_submitted, events_polled, event_at}
+use Rattle.tree_target.specs.Controls.{controlled, after_control}
 
 -- ---- drains
 abbrev pub is_draining_phase : Option Phase → Bool
@@ -83,6 +85,11 @@ abbrev pub executed : Target → ℕ → Option Command → Reply
 executed t queue None = replies.NoEvent
 executed t queue (Some h) = completion t queue h.cid SUCCESS 0
 
+-- an event completes a request with success
+abbrev pub polled_reply : Target → ℕ → Option (ℕ × ℕ) → Reply
+polled_reply t queue None = replies.NoEvent
+polled_reply t queue (Some x) = completion t queue x.0 SUCCESS x.1
+
 abbrev pub edited : Outcome → Reply
 edited (Refuses errno) = replies.Errno errno
 edited (Accepts u change) = replies.Accepted
@@ -90,8 +97,8 @@ edited (Accepts u change) = replies.Accepted
 unfoldable pub reply_of : Target → Call → Reply
 reply_of t (Submit queue number e) = submitted t queue e.cid (admission t queue e)
 reply_of t (Execute queue number payload) = executed t queue (held_at t queue number)
-reply_of t (Poll queue) = replies.NoEvent
-reply_of t (Control queue number e payload) = completion t queue e.cid INVALID_OPCODE 0
+reply_of t (Poll queue) = polled_reply t queue (event_at t queue)
+reply_of t (Control queue number e payload) = controlled t e payload (binding_at t queue)
 reply_of t (AnEdit line e) = edited (outcome t.tree e)
 reply_of t (DrainEnd line sub nsid) = replies.Ended
 
@@ -155,15 +162,18 @@ after_execute t queue number payload (Some h) = record t {
 
 abbrev pub after_edit : Target → Outcome → Target
 after_edit t (Refuses errno) = t
-after_edit t (Accepts u change) = record t { tree = u }
+after_edit t (Accepts u change) = record t { tree = u; stamps = stamps_after change t.stamps }
 
 -- the target after a call, but for its history
 unfoldable pub changed : Target → Call → Target
-changed t (Submit queue number e) = after_submit t queue number e.cid (admission t queue e)
+changed t (Submit queue number e) = record (after_submit t queue number e.cid (admission t queue e)) {
+  events = events_submitted t queue e;
+}
 changed t (Execute queue number payload) = after_execute t queue number payload
     (held_at t queue number)
-changed t (Poll queue) = t
-changed t (Control queue number e payload) = t
+changed t (Poll queue) = record t { events = events_polled t queue }
+changed t (Control queue number e payload) = after_control t queue e payload
+    (binding_at t queue)
 changed t (AnEdit line e) = after_edit t (outcome t.tree e)
 changed t (DrainEnd line sub nsid) = record t { tree = drained t.tree sub nsid }
 

@@ -15,7 +15,9 @@ use Rattle.configfs_rows.specs.declared.namespaces.NamespaceRow.{NamespaceRow}
 use Rattle.configfs_rows.specs.declared.subsystems.SubsystemRow.{SubsystemRow}
 use Rattle.configfs_rows.specs.declared.ports.PortRow.{PortRow}
 use Rattle.configfs_tree.specs.declared.configuration.Configuration.{Configuration}
+use Rattle.change_stamps.specs.Stamps.{Stamps, space_stamp, ana_stamp}
 use Rattle.tree_target.specs.Model.{Bound, Target}
+use Rattle.tree_target.specs.Controls.{subsystem_placed, port_placed}
 
 -- ---- namespaces
 abbrev pub space_in : ℕ → Option SubsystemRow → Option NamespaceRow
@@ -56,19 +58,19 @@ abbrev pub group_in : ℕ → Option PortRow → Option Ana
 group_in group None = None
 group_in group (Some p) = map.get p.groups group
 
--- ---- what is seen of a subsystem and a port, wherever they were found. No call of this stage
--- stamps a change, bars a controller or marks a namespace
-abbrev pub seen_from : Configuration → List ControllerRow → List Blocks → ℕ → Option SubsystemRow
-    → Option PortRow → View
-seen_from t controllers blocks ctrl s p = record {
+-- ---- what is seen of a subsystem and a port, wherever they were found, and of the stamps at their
+-- positions. No call of this stage bars a controller or marks a namespace
+abbrev pub seen_from : Configuration → List ControllerRow → List Blocks → Stamps → ℕ
+    → Option SubsystemRow → Option PortRow → ℕ → ℕ → View
+seen_from t controllers blocks stamps ctrl s p sub port = record {
   ready = ready_in controllers ctrl;
   ns = λ n. seen_of blocks (space_in n s);
   ana = λ g. group_state (group_in g p);
   group_made = λ g. is_some (group_in g p);
-  ns_stamp = λ n. 0;
-  ana_stamp = 0;
+  ns_stamp = λ n. space_stamp stamps sub n;
+  ana_stamp = ana_stamp stamps sub port;
   ana_count = t.settings.ana_count;
-  serial = 0;
+  serial = stamps.serial;
   bars = λ n opcode. 0;
   offers = plain_offers;
   marks = λ n. 0;
@@ -84,5 +86,6 @@ port_named t id = map.get t.settings.ports id
 
 -- what a queue sees that is connected through a port
 abbrev pub view_at : Target → ℕ → Bound → View
-view_at t port b = seen_from t.tree t.controllers t.blocks b.controller
+view_at t port b = seen_from t.tree t.controllers t.blocks t.stamps b.controller
     (subsystem_named t.tree b.subsystem) (port_named t.tree port)
+    (subsystem_placed t.tree b.subsystem) (port_placed t.tree port)

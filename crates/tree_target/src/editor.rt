@@ -7,12 +7,13 @@ ghost use Rattle.tree_target.specs.Model.{AnEdit, DrainEnd};
 ghost use Rattle.tree_target.specs.Steps.{disk_at, is_enabled_phase, may_end};
 ghost use Rattle.tree_target.specs.Kept.{LeavesOthers, holds};
 ghost use Rattle.tree_target.specs.Lawful.{IsLawfulAs, EndsNothing, begins, ends};
-ghost use Rattle.tree_target.specs.Stands.{Simulates, reply_from};
+ghost use Rattle.tree_target.specs.Stands.{Simulates, noted_by, reply_from};
 
 use crate::calls::{Call, Reply};
 use crate::commands::{find_command, is_free};
 use crate::edits::disables;
 use crate::target::Target;
+use change_stamps::ChangeStamps;
 use configfs_rows::{Nqn, Phase};
 use configfs_tree::{Change, Refused, Tree};
 use link_rules::{Edit, apply};
@@ -26,6 +27,16 @@ fn replied(answer: Result<Change, Refused>) -> Result<Reply, AllocError>
         Ok(_) => Ok(Reply::Accepted),
         Err(Refused::Errno(errno)) => Ok(Reply::Errno(errno)),
         Err(Refused::Memory) => Err(AllocError),
+    }
+}
+
+// Stamps what an accepted edit changed.
+fn note(stamps: &mut ChangeStamps, answer: &Result<Change, Refused>)
+    ensures { stamps.new ≡ noted_by answer.now stamps.old }
+{
+    match answer {
+        Ok(change) => stamps.note(change),
+        Err(_) => {}
     }
 }
 
@@ -109,7 +120,9 @@ impl Target {
         ensures same { OnErr result (self.new ≡ self.old) }
     {
         let _line = line;
-        replied(apply(alloc, &mut self.tree, e))
+        let answer = apply(alloc, &mut self.tree, e);
+        note(&mut self.stamps, &answer);
+        replied(answer)
     }
 
     /// Ends the drain of a namespace: its disk is free again. Takes no memory.

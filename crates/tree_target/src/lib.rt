@@ -8,13 +8,18 @@
 //! that it stood for before. After Linux nvmet (core.c, configfs.c, io-cmd-bdev.c).
 #![tactic(auto)]
 
+mod admin;
 mod calls;
 mod commands;
 mod editor;
 mod edits;
 mod law;
 mod look;
+mod plans;
 mod queues;
+mod simple;
+#[cfg(test)]
+mod simple_tests;
 mod start;
 mod target;
 #[cfg(test)]
@@ -29,5 +34,7 @@ pub use law::{
 };
 pub use look::TreeLook;
 pub use plan_files::MAX_QUEUES;
+pub use plans::plans_fit_targets;
+pub use simple::simple_is_edited;
 pub use start::LoadError;
 pub use target::Target;

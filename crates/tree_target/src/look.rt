@@ -3,6 +3,7 @@ ghost use Rattle.sqe_cqe.specs.Answers.{HasShape};
 ghost use Rattle.configfs_tree.specs.Links.{subsystem_row, port_row};
 ghost use Rattle.tree_target.specs.Views.{seen_of, space_in, row_of, group_in};
 
+use change_stamps::ChangeStamps;
 use configfs_rows::NamespaceRow;
 use configfs_tree::{Tree, subsystem_positions};
 use mem_bdev::Disk;
@@ -75,21 +76,30 @@ pub struct TreeLook<'a> {
     tree: &'a Tree,
     controllers: &'a Controllers,
     disks: &'a [Disk],
+    stamps: &'a ChangeStamps,
 }
 
 impl<'a> TreeLook<'a> {
     ghost use Rattle.tree_target.specs.Looked.{tree_answers};
 
-    /// A look at this configuration. The disks are those of the tree, in their order.
-    pub fn new(tree: &'a Tree, controllers: &'a Controllers, disks: &'a [Disk]) -> Self
+    /// A look at this configuration. The disks are those of the tree, in their order, and the stamps
+    /// those of its last changes.
+    pub fn new(
+        tree: &'a Tree,
+        controllers: &'a Controllers,
+        disks: &'a [Disk],
+        stamps: &'a ChangeStamps,
+    ) -> Self
         ensures tree { result.tree.now ≡ tree.now }
         ensures controllers { result.controllers.now ≡ controllers.now }
         ensures disks { result.disks.now ≡ disks.now }
+        ensures stamps { result.stamps.now ≡ stamps.now }
     {
         TreeLook {
             tree,
             controllers,
             disks,
+            stamps,
         }
     }
 }
@@ -100,12 +110,13 @@ impl<'a> Look for TreeLook<'a> {
     ghost use Rattle.sqe_cqe.specs.declared.controllers.ControllerRow.{ControllerRow};
     ghost use Rattle.configfs_tree.specs.declared.configuration.Configuration.{Configuration};
     ghost use Rattle.tree_target.specs.Looked.{tree_answers};
+    ghost use Rattle.change_stamps.specs.Stamps.{Stamps};
 
-    ghost Behind = { Configuration × List ControllerRow × List Blocks };
+    ghost Behind = { Configuration × List ControllerRow × List Blocks × Stamps };
 
-    ghost behind = { λ s. (s.tree.now, s.controllers.now, s.disks.now) };
+    ghost behind = { λ s. (s.tree.now, s.controllers.now, s.disks.now, s.stamps.now) };
 
-    ghost told = { λ b. tree_answers b.0 b.1 b.2 };
+    ghost told = { λ b. tree_answers b.0 b.1 b.2 b.3 };
 
     ghost loads = { λ s. 0 };
 
@@ -128,12 +139,12 @@ impl<'a> Look for TreeLook<'a> {
         group_at(self.tree, port, group).is_some()
     }
 
-    fn ns_stamp(&mut self, _sub: u8, _nsid: u32) -> u32 {
-        0
+    fn ns_stamp(&mut self, sub: u8, nsid: u32) -> u32 {
+        self.stamps.space(sub, nsid)
     }
 
-    fn ana_stamp(&mut self, _sub: u8, _port: u8) -> u32 {
-        0
+    fn ana_stamp(&mut self, sub: u8, port: u8) -> u32 {
+        self.stamps.ana(sub, port)
     }
 
     fn ana_count(&mut self) -> u64 {
@@ -141,7 +152,7 @@ impl<'a> Look for TreeLook<'a> {
     }
 
     fn serial(&mut self) -> u32 {
-        0
+        self.stamps.serial()
     }
 
     fn bars(&mut self, _ctrl: u16, _sub: u8, _nsid: u32, _opcode: u8) -> u16 {

@@ -1,5 +1,5 @@
 // The calls of queues.
-ghost use Rattle.std.specs.Prelude.{◌≡◌, ◌≢◌, ◌+◌, [], IsTrue, true, length};
+ghost use Rattle.std.specs.Prelude.{◌≡◌, ◌≢◌, ◌+◌, [], IsTrue, true, false, length};
 ghost use Rattle.mem_bdev.specs.Texts.{HasRoom, appended};
 ghost use Rattle.sqe_cqe.specs.Sqe.{direction_of, payload_len, host_len};
 ghost use Rattle.sqe_cqe.specs.declared.codes.TheConstants.{FABRICS};
@@ -8,11 +8,13 @@ ghost use Rattle.tree_target.specs.Kept.{HasQueue, IsIdle, IsHolding, LeavesOthe
 ghost use Rattle.tree_target.specs.Model.{Submit, Execute, Poll, Control};
 ghost use Rattle.tree_target.specs.Stands.{Simulates, SubmitsAdmin};
 
+use crate::admin::{add_state, event_reply, poll_events, raise_if, replied, serve};
 use crate::calls::{Command, Reply};
 use crate::commands::{take_command, work};
 use crate::look::TreeLook;
 use crate::target::{Target, complete};
 use configfs_tree::{port_positions, subsystem_positions};
+use fabrics_connect::control;
 use io_commands::{Admit, admit_io};
 use mem_bdev::Buffer;
 use sqe_cqe::{Bound, INVALID_OPCODE, SUCCESS, Sqe};
@@ -40,20 +42,18 @@ impl Target {
         let Some(bound) = self.bound(queue) else {
             return Admit::Refused(INVALID_OPCODE);
         };
-        if bound.qid == 0 {
-            return Admit::Refused(INVALID_OPCODE);
-        }
-        let mut look = TreeLook::new(&self.tree, &self.controllers, &self.disks);
+        let mut look = TreeLook::new(&self.tree, &self.controllers, &self.disks, &self.stamps);
         admit_io(&bound, e, &mut look)
     }
 
-    /// Submits a command of a queue: it is answered with the status of the first check that fails,
-    /// or held. `number` is the capsule's number in its file, from 0. The queue's last command was
+    /// Submits a command of a queue that isn't an admin queue (`is_admin` tells): it is answered with
+    /// the status of the first check that fails, or held. `number` is the capsule's number in its file, from 0. The queue's last command was
     /// executed. A command that is held asks for as many bytes of data, both ways, as its entry
     /// names. Takes no memory.
     pub fn submit(&mut self, queue: u32, number: u32, e: &Sqe) -> Reply
         requires queue { HasQueue self.old queue }
         requires idle { IsIdle self.old queue }
+        requires not_admin { is_admin_in self.old queue ≡ false }
         ensures does { Simulates self.old (Submit queue number e.now) result [] self.new }
         ensures held { result ≡ Reply.Held →
             IsHolding self.new queue number (payload_len e.now) (host_len e.now) }
@@ -104,9 +104,10 @@ impl Target {
         complete(qid, command.cid, SUCCESS)
     }
 
-    /// Submits a command of a connected admin queue; data for the host are appended to `to`, which
-    /// has room for as many as the entry names. No command is served yet, so each is answered
-    /// with Invalid Opcode. `number` is the capsule's number in its file, from 0. Takes no memory.
+    /// Submits a command of a connected admin queue (`is_admin` tells): it is answered, or an event
+    /// request waits, by `admin_commands::admit_admin`. Data for the host are appended to `to`,
+    /// which has room for as many as the entry names. `number` is the capsule's number in its file,
+    /// from 0. The queue's last command was executed. Takes no memory.
     pub fn submit_admin(&mut self, queue: u32, number: u32, e: &Sqe, to: &mut Buffer) -> Reply
         requires queue { HasQueue self.old queue }
         requires idle { IsIdle self.old queue }
@@ -123,12 +124,25 @@ impl Target {
         self.tree.certify();
         subsystem_positions(&self.tree);
         port_positions(&self.tree);
-        let _input = (number, to.len());
-        complete(self.qid(queue), e.cid, INVALID_OPCODE)
+        let _number = number;
+        let Some(bound) = self.bound(queue) else {
+            unreachable!();
+        };
+        let reply = serve(
+            &self.tree,
+            &self.controllers,
+            &self.disks,
+            &self.stamps,
+            &mut self.states,
+            &bound,
+            e,
+            to,
+        );
+        replied(reply, bound.qid, e.cid)
     }
 
-    /// Polls the admin queue of a controller: it gets the completion of an event request, or no
-    /// event. No event comes yet. Takes no memory.
+    /// Polls an admin queue (`admin_commands::poll_admin`): it gets the completion of the event
+    /// request that was submitted last, or no event. Another queue gets none. Takes no memory.
     pub fn poll(&mut self, queue: u32) -> Reply
         ensures does { Simulates self.old (Poll queue) result [] self.new }
         ensures replies { is_poll_reply result ≡ true }
@@ -136,13 +150,30 @@ impl Target {
         ensures bindings { self.new.bindings ≡ self.old.bindings }
         ensures others { LeavesOthers queue self.old self.new }
     {
-        let _queue = queue;
-        Reply::NoEvent
+        self.tree.certify();
+        subsystem_positions(&self.tree);
+        port_positions(&self.tree);
+        if !self.is_admin(queue) {
+            return Reply::NoEvent;
+        }
+        let Some(bound) = self.bound(queue) else {
+            unreachable!();
+        };
+        let event = poll_events(
+            &self.tree,
+            &self.controllers,
+            &self.disks,
+            &self.stamps,
+            &mut self.states,
+            &bound,
+        );
+        event_reply(event, bound.qid)
     }
 
-    /// A fabrics command (opcode 7Fh), with as many bytes of data as a Connect's SGL length says:
-    /// no queue can be connected yet, so it is refused. The queue's last command was executed.
-    /// Takes no memory.
+    /// A fabrics command (opcode 7Fh) on a queue: Connect, Property Get or Property Set, with as many
+    /// bytes of data as a Connect's SGL length says. The first check that fails answers with its
+    /// status and result, and changes nothing (`fabrics_connect::control`). The queue's last
+    /// command was executed. Takes no memory.
     pub fn control(&mut self, queue: u32, number: u32, e: &Sqe, payload: &[u8]) -> Reply
         requires opcode { e.now.opcode ≡ FABRICS }
         requires payload { direction_of e.now ≡ ToController →
@@ -155,7 +186,20 @@ impl Target {
         ensures idle { IsIdle self.new queue }
         ensures others { LeavesOthers queue self.old self.new }
     {
-        let _input = (number, payload.len());
-        complete(self.qid(queue), e.cid, INVALID_OPCODE)
+        let _number = number;
+        self.tree.certify();
+        let at = queue as usize - 1;
+        let mut binding = self.bindings[at];
+        let told = control(
+            &mut self.tree,
+            &mut self.controllers,
+            &mut binding,
+            e,
+            payload,
+        );
+        self.bindings[at] = binding;
+        raise_if(&mut self.stamps, told.published);
+        add_state(&mut self.states, self.stamps.serial(), &told.made, e);
+        Reply::Answered(told.cqe)
     }
 }

@@ -4,7 +4,7 @@ ghost use Rattle.mem_bdev.specs.Blocks.{IsShape};
 ghost use Rattle.mem_bdev.specs.declared.limits.TheConstants.{MAX_TRANSFER};
 ghost use Rattle.plan_files.specs.declared.plan.TheConstants.{MAX_QUEUES};
 ghost use Rattle.tree_target.specs.Edits.{is_well_formed};
-ghost use Rattle.tree_target.specs.Loads.{LoadsTarget, start_of, loaded};
+ghost use Rattle.tree_target.specs.Loads.{IsFresh, LoadsTarget, start_of, loaded};
 ghost use Rattle.tree_target.specs.Kept.{HasHeldData, HasQueue, IsIdle, binding_in, bound_in, is_admin_in, is_admin_bound, held_len, held_reply, qid_from};
 ghost use Rattle.tree_target.specs.Stands.{StandsFor};
 ghost use Rattle.tree_target.specs.Kept.{answered};
@@ -12,6 +12,8 @@ ghost use Rattle.tree_target.specs.Kept.{answered};
 use crate::calls::{Command, Reply};
 use crate::commands::{command_of_queue, find_command, given, takes};
 use crate::start::{LoadError, apply_edits, blank_disks, unconnected};
+use admin_commands::EventStates;
+use change_stamps::ChangeStamps;
 use configfs_tree::Tree;
 use link_rules::Edit;
 use mem_bdev::{Disk, DiskLine};
@@ -29,6 +31,8 @@ pub struct Target {
     pub(crate) disks: Vec<Disk>,
     pub(crate) bindings: Vec<Binding>,
     pub(crate) held: Vec<Command>,
+    pub(crate) states: EventStates,
+    pub(crate) stamps: ChangeStamps,
 }
 
 impl Model for Target {
@@ -41,9 +45,9 @@ impl Model for Target {
 
     ghost coded = { Prim.hlevel (codes, tree_contract.the_row.coded) };
 
-    ghost view = { λ t. record { tree = t.tree; controllers = t.controllers; blocks = t.disks.items; bindings = t.bindings.items; held = t.held.items } };
+    ghost view = { λ t. record { tree = t.tree; controllers = t.controllers; blocks = t.disks.items; bindings = t.bindings.items; held = t.held.items; events = t.states; stamps = t.stamps } };
 
-    ghost invariant = { λ t. IsKept (record { tree = t.tree; controllers = t.controllers; blocks = t.disks.items; bindings = t.bindings.items; held = t.held.items }) (vec_capacity t.held) };
+    ghost invariant = { λ t. IsKept (record { tree = t.tree; controllers = t.controllers; blocks = t.disks.items; bindings = t.bindings.items; held = t.held.items; events = t.states; stamps = t.stamps }) (vec_capacity t.held) };
 }
 
 // A completion on the queue with this QID.
@@ -70,6 +74,7 @@ impl Target {
         requires few_queues { length ports.now ≤ MAX_QUEUES }
         requires disks { IsTrue (are_disks lines.now) }
         requires shaped { All (λ d. IsShape d.shift d.blocks) lines.now }
+        requires fresh { IsFresh tree }
         ensures stands { IfOk result (λ k. StandsFor k (start_of tree lines.now ports.now)) }
         ensures queues { IfOk result (λ k. length k.bindings ≡ length ports.now) }
         ensures idle { IfOk result (λ k. (queue : ℕ) → IsIdle k queue) }
@@ -78,12 +83,16 @@ impl Target {
         let disks = blank_disks(alloc, lines)?;
         let bindings = unconnected(alloc, ports)?;
         let held = Vec::with_capacity(alloc, MAX_QUEUES)?;
+        let states = EventStates::new(alloc)?;
+        let stamps = ChangeStamps::new(alloc)?;
         Ok(Target {
             tree,
             controllers,
             disks,
             bindings,
             held,
+            states,
+            stamps,
         })
     }
 

@@ -1,7 +1,7 @@
-use Rattle.std.proofs.Common.{◌≡◌, ap, sym, subst, ◌∙◌, arith}
+use Rattle.std.proofs.Common.{◌≡◌, false, ap, sym, subst, ◌∙◌, arith}
 use Rattle.io_commands.specs.declared.jobs.Admit.TheVariants.{Run}
 use Rattle.configfs_tree.specs.Links.{SubsystemPositions, PortPositions}
-use Rattle.tree_target.specs.Kept.{Kept, HasQueue, IsIdle, AdmitsOn, admission_by}
+use Rattle.tree_target.specs.Kept.{Kept, HasQueue, IsIdle, AdmitsOn, admission_by, is_admin_in}
 use Rattle.tree_target.specs.contracts.target.Target.{the_view}
 use Rattle.tree_target.proofs.Admitting.{refused_does, held_does, held_kept, held_room, holds_after, held_leaves}
 use Rattle.tree_target.proofs.target.Target.submit.Goals as goal
@@ -33,7 +33,7 @@ returns-in-Refused-clause-does c = rw (c.complete.ensures, c.qid.ensures)
     (refused_does c.args.self.now c.args.queue c.args.number c.args.e.now c.in-Refused.status
     (subst (λ (x : Kept). SubsystemPositions x.tree) c.self.view_is c.subsystem_positions.ensures)
     (subst (λ (x : Kept). PortPositions x.tree) c.self.view_is c.port_positions.ensures)
-    (sym c.in-Refused.ensures.value))
+    c.requires.not_admin (sym c.in-Refused.ensures.value))
 
 pub returns-in-Ok-clause-does : goal.returns-in-Ok-clause-does
 returns-in-Ok-clause-does c =
@@ -43,7 +43,9 @@ returns-in-Ok-clause-does c =
     ∙ sym c.in-Run.ensures.value in
     rw (c.in-Ok.ensures.items, ← c.self.view_is)
     (held_does k c.args.queue c.args.number c.args.e.now c.in-Run.job
-    c.subsystem_positions.ensures c.port_positions.ensures is)
+    c.subsystem_positions.ensures c.port_positions.ensures
+    (subst (λ (x : Kept). is_admin_in x c.args.queue ≡ false) (sym c.self.view_is)
+    c.requires.not_admin) is)
 
 pub returns-in-Ok-clause-held : goal.returns-in-Ok-clause-held
 returns-in-Ok-clause-held c = λ _.

@@ -1,0 +1,14 @@
+pub mod Views
+pub mod InputFiles
+pub mod Known
+pub mod Contents
+pub mod PlanFile
+pub mod ConfigurationFile
+pub mod ScriptFile
+pub mod QueueFile
+pub mod Gives
+pub mod Walk
+pub mod Reading
+pub mod Stages
+pub mod Planned
+pub mod Ready
