@@ -1,9 +1,10 @@
-ghost use Rattle.notice_laws.specs.Laws.{ListIsTheFold, NoticesAreTheFold, StampsAreMarks, StampsStaySound, StartIsSound};
+ghost use Rattle.notice_laws.specs.Laws.{EditsNameInRange, ListIsTheFold, NoticesAreTheFold, RaiseIsAMark, StampsAreMarks, StampsStaySound, StartIsSound};
 
 /// A law, with nothing to run: what a published change stamps is what its mark stamps, at any
-/// positions. The start is sound, and a change leaves the stamps sound.
+/// positions; one of controllers alone raises the serial. The start is sound, and a change leaves the stamps sound.
 pub fn stamps_are_marks()
     ensures marks { StampsAreMarks }
+    ensures raised { RaiseIsAMark }
     ensures start { StartIsSound }
     ensures stay { StampsStaySound }
 {}
@@ -14,4 +15,10 @@ pub fn stamps_are_marks()
 pub fn notices_are_the_fold()
     ensures notices { NoticesAreTheFold }
     ensures list { ListIsTheFold }
+{}
+
+/// A law, with nothing to run: the change that an accepted edit tells names a namespace that stands,
+/// and positions of the tables of subsystems and ports.
+pub fn edits_name_in_range()
+    ensures { EditsNameInRange }
 {}

@@ -10,4 +10,4 @@
 
 mod law;
 
-pub use law::{notices_are_the_fold, stamps_are_marks};
+pub use law::{edits_name_in_range, notices_are_the_fold, stamps_are_marks};
