@@ -1,7 +1,8 @@
 // A run that writes more than 64 KiB, and runs that would write over what they read.
 use crate::records::{TRANSFER, capsules, responses};
-use nvmet_run::{FileNo, Status, run_plan};
+use nvmet_run::{Status, run_plan};
 use plan_files::{HostFiles, MemSink, OpenGate};
+use run_outcomes::FileNo;
 use std::alloc::Global;
 use std::fs;
 use std::sync::Wait;
@@ -42,7 +43,7 @@ fn a_response_file_of_many_pieces(rt: HostRuntime) -> Result<(), Fail> {
     let served = capsules(rt.alloc(), &written)?;
     fs::write(&rt, queue.as_str(), served.as_slice())?;
     let (status, out) = run(&rt, &rt, plan.as_str())?;
-    assert_eq!(rt; status, Status::Fine);
+    assert_eq!(rt; status.code(), 0);
     assert_eq!(rt; out.bytes(), SUMMARY.as_bytes());
     let found = fs::read(&rt, response.as_str())?;
     let want = responses(rt.alloc(), &written)?;
@@ -63,8 +64,11 @@ fn a_run_writes_over_nothing_that_it_read(rt: HostRuntime) -> Result<(), Fail> {
         fs::write(&rt, plan.as_str(), text.as_str())?;
         fs::write(&rt, queue.as_str(), served.as_slice())?;
         let (status, out) = run(&rt, &rt, plan.as_str())?;
-        let file = FileNo(5);
-        assert_eq!(rt; status, Status::WriteFault { file });
+        let is_of_responses = match &status {
+            Status::WriteFault { file } => file.0 == FileNo(5).0,
+            _ => false,
+        };
+        assert!(rt; is_of_responses, "{response}");
         let line = format!(in rt.alloc(); "cannot write {response}\n")?;
         assert_eq!(rt; out.bytes(), line.as_bytes());
         assert!(rt; fs::read(&rt, plan.as_str())?.as_slice() == text.as_bytes());
