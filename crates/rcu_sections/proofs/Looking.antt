@@ -1,6 +1,7 @@
 -- What looks at section words tell.
 use Rattle.std.proofs.Common.{◌≡◌, ◌≢◌, ⊎_elim, ℕ, zero, suc, ◌+◌, ◌%◌, ◌<◌, ◌≤◌, ◌==◌, ◌++◌, Bool, true, false, if◌then◌else◌, List, [], ◌∷◌, length, get_or, set, map, replicate, sym, refl, ap, ◌∙◌, arith, ne_eqb, get_or-set_other, get_or-set_same, add-one, zero-add, add_assoc, slice_index}
 use Rattle.std.proofs.lemmas.List.{length-set}
+use lib.ListN.{length-map}
 use mathlib.Core.Logic.{dite}
 use native.Mathlib.Decide.{ℕ_discrete}
 use Rattle.ref_state.specs.declared.state.Drain.{Drain}
@@ -215,3 +216,7 @@ told_more {S} new old a b c before now = now ∙ (ap (λ (z : Me S Told). (after
 -- steps of the kind Row, and then more
 pub rows_more : (n m : ℕ) (a b c : Counted) → b ≡ record a { row = a.row + n } → c ≡ record b { row = b.row + m } → c ≡ record a { row = a.row + (n + m) }
 rows_more n m a b c before now = now ∙ (ap (λ (z : Counted). record z { row = z.row + m }) before ∙ λ i. record a { row = add_assoc a.row n m i })
+
+pub drains_length : (ls : List Look) (ds : List Drain) → length (drains_after ls ds) ≡ length ds
+drains_length [] ds = refl
+drains_length (l ∷ ls) ds = length-map (drains_after ls ds) (at_drain l.0 l.1) ∙ drains_length ls ds

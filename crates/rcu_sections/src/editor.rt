@@ -16,6 +16,8 @@ pub struct Editor<S> {
     pub seat: Seat<S>,
     /// How many seats there are.
     pub seats: u32,
+    /// How many disks.
+    pub disks: u32,
     /// By seat its section word as it was found right after the last publish. An even one is of a
     /// seat that reads the last serial, or none.
     pub words: [u64; 32],
@@ -24,6 +26,8 @@ pub struct Editor<S> {
     pub ghost first: { seat.number ≡ 0 },
     pub ghost seats_are: { seats ≡ seat.base.me.0.seats },
     pub ghost few: { seats ≤ 32 },
+    pub ghost drains_are: { length seat.base.me.0.notes.drains ≡ disks },
+    pub ghost few_disks: { disks ≤ 64 },
     pub ghost long: { length seat.base.me.0.notes.marks ≡ seats },
     pub ghost noted: { Noted seats words seat.base.me.0.notes.marks },
     pub ghost bases_are: { (d : ℕ) → d < 64
@@ -31,17 +35,25 @@ pub struct Editor<S> {
 }
 
 impl<S> Editor<S> {
-    /// The editor of a table that was just opened, with this many seats.
-    pub fn new<M: Means<S>>(table: &TargetTable<S, M>, seat: Seat<S>, seats: u32) -> Editor<S>
+    /// The editor of a table that was just opened, with this many seats and disks.
+    pub fn new<M: Means<S>>(
+        table: &TargetTable<S, M>,
+        seat: Seat<S>,
+        seats: u32,
+        disks: u32,
+    ) -> Editor<S>
         requires opened { seat.base.me ≡ (opened_editor M.means table.now.table.shared.key, []) }
         requires seats { (seats ≡ length table.now.table.shared.key.quotas) × (seats ≤ 32) }
+        requires disks { (disks ≡ table.now.table.shared.key.disks) × (disks ≤ 64) }
         ensures seat { result.seat ≡ seat }
+        ensures counts { (result.seats ≡ seats) × (result.disks ≡ disks) }
         ensures spare { IsSpare 0 result.seat.base.me.0 }
     {
         let _ = table;
         Editor {
             seat,
             seats,
+            disks,
             words: [0; 32],
             bases: [0; 64],
         }

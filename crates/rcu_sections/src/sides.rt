@@ -28,7 +28,7 @@ fn still_reads<S, M: Means<S>, L: Ledger>(
     requires there { other < editor.old.seats }
     ensures own { editor.new.seat.base.table_id ≡ editor.old.seat.base.table_id }
     ensures kept { (editor.new.words ≡ editor.old.words) × (editor.new.bases ≡ editor.old.bases)
-        × (editor.new.seats ≡ editor.old.seats) }
+        × (editor.new.seats ≡ editor.old.seats) × (editor.new.disks ≡ editor.old.disks) }
     ensures told { (looks : _) × (editor.new.seat.base.me
         ≡ (after_looks looks editor.old.seat.base.me.0, editor.old.seat.base.me.1)) }
     ensures reading { IfSome result (λ count. (is_odd count ≡ true)
@@ -60,7 +60,7 @@ pub fn spare<S, M: Means<S>, L: Ledger>(
     requires own { editor.old.seat.base.table_id ≡ table.now.table.shared.table_id }
     ensures own { editor.new.seat.base.table_id ≡ editor.old.seat.base.table_id }
     ensures kept { (editor.new.words ≡ editor.old.words) × (editor.new.bases ≡ editor.old.bases)
-        × (editor.new.seats ≡ editor.old.seats) }
+        × (editor.new.seats ≡ editor.old.seats) × (editor.new.disks ≡ editor.old.disks) }
     ensures told { (looks : _) × (editor.new.seat.base.me
         ≡ (after_looks looks editor.old.seat.base.me.0, editor.old.seat.base.me.1)) }
     ensures spare { IfOk result (λ s. IsSpare s.serial editor.new.seat.base.me.0) }
@@ -95,7 +95,7 @@ pub fn set_row<S, M: Means<S>, L: Ledger>(
     requires near { word < table.now.table.shared.key.rows }
     ensures own { editor.new.seat.base.table_id ≡ editor.old.seat.base.table_id }
     ensures kept { (editor.new.words ≡ editor.old.words) × (editor.new.bases ≡ editor.old.bases)
-        × (editor.new.seats ≡ editor.old.seats) }
+        × (editor.new.seats ≡ editor.old.seats) × (editor.new.disks ≡ editor.old.disks) }
     ensures spare { (spare.new ≡ spare.old) × IsSpare spare.new.serial editor.new.seat.base.me.0 }
     ensures view { editor.new.seat.base.me
         ≡ (
@@ -138,7 +138,8 @@ pub fn publish<S, M: Means<S>, L: Ledger>(
         → M.means.words (M.means.next t call) ≡ spare_of editor.old.seat.base.me.0.notes }
     ensures own { (editor.new.seat.base.table_id ≡ editor.old.seat.base.table_id)
         × (editor.new.seat.base.me.1 ≡ editor.old.seat.base.me.1) }
-    ensures kept { (editor.new.bases ≡ editor.old.bases) × (editor.new.seats ≡ editor.old.seats) }
+    ensures kept { (editor.new.bases ≡ editor.old.bases) × (editor.new.seats ≡ editor.old.seats)
+        × (editor.new.disks ≡ editor.old.disks) }
     ensures published { (mid : _) × Published M.means call editor.old.seat.base.me.0 mid result.0
         result.1 × (editor.new.seat.base.me.0
         ≡ after_looks (round editor.old.seats editor.new.words) mid) }

@@ -8,7 +8,7 @@ use Rattle.table_rule.specs.declared.rule.Told.{Told}
 use Rattle.table_rule.specs.Meant.{target}
 use Rattle.table_rule.proofs.Histories.{target_snoc}
 use Rattle.rcu_sections.specs.Grace.{round, Noted, base_word}
-use Rattle.rcu_sections.proofs.Looking.{length_after, round_noted, unseen_fresh, bases_after}
+use Rattle.rcu_sections.proofs.Looking.{length_after, round_noted, unseen_fresh, bases_after, drains_length}
 use Rattle.rcu_sections.proofs.sides.publish.Goals as goal
 
 pub invariant_of-editor-clause-seats_are : goal.invariant_of-editor-clause-seats_are
@@ -38,3 +38,8 @@ returns-clause-shows g c = λ long. let p = c.publish-drew.ensures.published in 
     ap (λ (z : Me (Option g.row.S.Denot) Told). m.words (target m z.0.known)) c.look_round-editor.ensures.told
     ∙ (ap (λ (z : Told). m.words (target m z.known)) p.told
     ∙ (ap m.words (target_snoc m (old.known ++ p.between) c.args.call) ∙ c.requires.words (target m (old.known ++ p.between)) p.steady long))
+
+pub invariant_of-editor-clause-drains_are : goal.invariant_of-editor-clause-drains_are
+invariant_of-editor-clause-drains_are g c = ap (λ (z : Me (Option g.row.S.Denot) Told). length z.0.notes.drains) c.look_round-editor.ensures.told
+    ∙ (drains_length (round c.args.editor.now.seats c.look_round-editor.result) c.publish-drew.new.seat.base.me.0.notes.drains
+    ∙ (ap (λ (z : Told). length z.notes.drains) c.publish-drew.ensures.published.told ∙ c.args.editor.now.drains_are))

@@ -30,6 +30,7 @@ loop-other-preserved g c = let v = c.loop-other.invariant in let e = c.still_rea
   words = e.kept.0 ∙ v.words;
   bases = e.kept.1 ∙ v.bases;
   same = e.kept.2 ∙ v.same;
+  disks = e.kept.3 ∙ v.disks;
   many = refl;
   below = omega arith;
   told = (t.0 ++ v.told.0, told_more t.0 v.told.0 c.args.editor.now.seat.base.me c.loop-other.editor.seat.base.me c.still_reads.new.editor.seat.base.me v.told.1 t.1);

@@ -10,6 +10,7 @@ invariant-loop-other g l = record {
   words : l.editor.words ≡ l.fn.editor.words;
   bases : l.editor.bases ≡ l.fn.editor.bases;
   same : l.editor.seats ≡ l.fn.editor.seats;
+  disks : l.editor.disks ≡ l.fn.editor.disks;
   many : l.seats ≡ l.fn.editor.seats;
   below : l.other ≤ l.seats;
   told : (looks : List Look) × (l.editor.seat.base.me ≡ (after_looks looks l.fn.editor.seat.base.me.0, l.fn.editor.seat.base.me.1));

@@ -4,6 +4,7 @@ use Rattle.atomic_table.specs.Table.{Me}
 use Rattle.ref_state.specs.declared.state.Mark.TheVariants.{Passed}
 use Rattle.ref_state.specs.State.{mark}
 use Rattle.table_rule.specs.declared.rule.Told.{Told}
+use Rattle.ref_state.specs.Soundness.{live_drain}
 use Rattle.rcu_sections.specs.Grace.{base_word}
 use Rattle.rcu_sections.proofs.Looking.{bases_none, all_passed, zeros}
 use Rattle.rcu_sections.proofs.editor.Editor.new.Goals as goal
@@ -32,3 +33,7 @@ returns-clause-spare g c = record {
   over = λ j near. ap (λ (z : Me (Option g.row.S.Denot) Told). mark z.0.notes.marks j) c.requires.opened
       ∙ all_passed (length c.args.table.now.table.shared.key.quotas) j (let n : c.args.seat.base.me.0.seats ≡ length c.args.table.now.table.shared.key.quotas = ap (λ (z : Me (Option g.row.S.Denot) Told). z.0.seats) c.requires.opened in omega arith);
 }
+
+pub invariant_of-result-clause-drains_are : goal.invariant_of-result-clause-drains_are
+invariant_of-result-clause-drains_are g c = ap (λ (z : Me (Option g.row.S.Denot) Told). length z.0.notes.drains) c.requires.opened
+    ∙ (length-replicate c.args.table.now.table.shared.key.disks (live_drain (length c.args.table.now.table.shared.key.quotas)) ∙ sym c.requires.disks.0)
