@@ -8,6 +8,10 @@
 //! lib/percpu-refcount.c as Linux nvmet uses it for namespaces.
 #![tactic(auto)]
 
+mod counting;
+pub mod drains;
 pub mod holds;
+pub mod laws;
+pub mod lives;
 pub mod put_kinds;
 pub mod references;
