@@ -3,4 +3,8 @@
 #![tactic(auto)]
 
 #[cfg(test)]
+mod drain_threads;
+#[cfg(test)]
 mod reader_threads;
+#[cfg(test)]
+mod replay_threads;
