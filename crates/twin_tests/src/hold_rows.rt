@@ -101,3 +101,59 @@ fn a_live_put_of_another_seat_is_in_the_sum(rt: HostRuntime) -> Result<(), Alloc
     assert!(rt; found == Some((Put::Kept, true)));
     Ok(())
 }
+
+// Seat 1 gets two holds; the disk is hidden, killed, folded and polled; then seat 2 puts one and
+// seat 1 the other: the count, both answers, and whether no hold stands at the end.
+fn put_both<L: Ledger>(
+    alloc: Global,
+    blank: Blank,
+) -> Result<Option<(u64, [Put; 2], bool)>, AllocError>
+    requires name { (blank.name ≡ L.name) × (blank.parts ≡ L.parts) × (L.parts ≡ 5) }
+{
+    let (table, mut editor, queues) = five(alloc, 8, 4)?;
+    let Queues {
+        mut one,
+        mut two,
+        three: _,
+        four: _,
+    } = queues;
+    let mut steps = Steps::<L>::start(blank);
+    let Some(first) = take_hold(&table, &mut one, 0, 0, &mut steps) else {
+        return Ok(None);
+    };
+    let Some(second) = take_hold(&table, &mut one, 0, 1, &mut steps) else {
+        let _ = put_back(&table, &mut one, first, &mut steps);
+        return Ok(None);
+    };
+    let hidden = edit(&table, &mut editor, 0, &mut steps).is_ok();
+    let folded = if hidden {
+        fold_at_once(&table, &mut editor, &mut steps)
+    } else {
+        None
+    };
+    let polled = match folded {
+        Some(folded) => poll_at_once(&table, &mut editor, folded, &mut steps),
+        None => Ok(()),
+    };
+    let puts = [
+        put_back(&table, &mut two, first, &mut steps),
+        put_back(&table, &mut one, second, &mut steps),
+    ];
+    let Err((again, holds)) = polled else {
+        return Ok(None);
+    };
+    match poll_at_once(&table, &mut editor, again, &mut steps) {
+        Ok(()) => Ok(Some((holds, puts, true))),
+        Err((again, _)) => {
+            let Folded { disk: _ } = again;
+            Ok(Some((holds, puts, false)))
+        }
+    }
+}
+
+#[test]
+fn the_last_put_is_told(rt: HostRuntime) -> Result<(), AllocError> {
+    let found = put_both::<Brand>(rt.alloc(), Blank::new(5))?;
+    assert!(rt; found == Some((2, [Put::Kept, Put::Last], true)));
+    Ok(())
+}

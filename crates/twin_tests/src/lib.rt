@@ -5,3 +5,5 @@
 mod hold_rows;
 #[cfg(test)]
 mod section_rows;
+#[cfg(test)]
+mod wait_rows;

@@ -1,4 +1,4 @@
-use Rattle.std.proofs.Common.{◌≡◌, ◌<◌, ◌≤◌, ◌+◌, ◌-◌, ℕ}
+use Rattle.std.proofs.Common.{◌≡◌, ◌≤◌, ◌+◌, ◌-◌}
 use Rattle.twin_tables.specs.Keeping.{Rests}
 use Rattle.twin_threads_tests.proofs.drain_threads.hold_all.Given as goal
 

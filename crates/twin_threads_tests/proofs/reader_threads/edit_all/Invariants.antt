@@ -1,4 +1,4 @@
-use Rattle.std.proofs.Common.{◌≡◌, ◌<◌, ◌≤◌, ◌+◌, ◌-◌, ℕ}
+use Rattle.std.proofs.Common.{◌≡◌, ◌≤◌, ◌+◌, ◌-◌, ℕ}
 use Rattle.ref_state.specs.declared.state.Phase.TheVariants.{Live}
 use Rattle.twin_tables.specs.Keeping.{Edits, IsIn}
 use Rattle.twin_threads_tests.proofs.reader_threads.edit_all.Given as goal
