@@ -13,7 +13,7 @@ use Rattle.table_rule.specs.Shown.{claims_but, claims_only, cutting, part_of, jo
 use Rattle.table_rule.specs.Words.{at, ModeOf, SharedOf}
 use Rattle.table_rule.specs.Counted.{Counted}
 use Rattle.percpu_ref.specs.declared.put_kinds.Put.TheVariants.{Kept, Last}
-use Rattle.percpu_ref.specs.Holds.{MayPut, own_steps, shared_steps, counter_found, put_of}
+use Rattle.percpu_ref.specs.Holds.{MayPut, own_steps, shared_steps, counter_found, put_of, CountsOnce}
 
 -- ## One hold that passes a test
 
@@ -157,3 +157,7 @@ put_ticks mode a b c d e joins enters counts leaves = let own : ((a.own + 1) + o
     ∙ (ap (λ (z : Counted). record z { own = (z.own + own_steps mode) + 1; shared = z.shared + shared_steps mode; row = z.row + 1 }) enters
     ∙ (ap (λ (z : Counted). record z { own = ((z.own + 1) + own_steps mode) + 1; shared = z.shared + shared_steps mode; row = z.row + 1 }) joins
     ∙ λ i. record a { own = own i; shared = a.shared + shared_steps mode; clock = a.clock + 1; row = a.row + 1 })))
+
+pub once : CountsOnce
+once zero = refl
+once (suc m) = refl

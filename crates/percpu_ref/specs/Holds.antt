@@ -44,6 +44,10 @@ abbrev pub shared_steps : ℕ → ℕ
 shared_steps zero = 0
 shared_steps (suc m) = 1
 
+-- a get or a put counts by one step, whichever mode it loaded
+abbrev pub CountsOnce : Type 0
+CountsOnce = (mode : ℕ) → own_steps mode + shared_steps mode ≡ 1
+
 -- what its loads and steps found: the mode, and once that is killed the shared count before its step
 abbrev pub counter_found : ℕ → ℕ → ℕ → List (ℕ × ℕ) → List (ℕ × ℕ)
 counter_found d zero before fs = (at (ModeOf d), 0) ∷ fs

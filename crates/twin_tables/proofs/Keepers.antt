@@ -20,7 +20,8 @@ use Rattle.rcu_sections.specs.Grace.{Look, after_looks}
 use Rattle.rcu_sections.proofs.Looking.{phase_after}
 use Rattle.percpu_ref.specs.Lives.{Folds, new_life}
 use Rattle.twin_tables.specs.Twins.{twin_means}
-use Rattle.twin_tables.specs.Keeping.{Rests, Edits, IsIn, LeavesOthers}
+use Rattle.twin_tables.specs.Keeping.{Rests, Edits, IsIn, LeavesOthers, all_steps}
+use Rattle.percpu_ref.proofs.Holding.{once}
 
 -- ## Looks
 
@@ -147,3 +148,11 @@ spare_words n k ps e long = let is = ap (overlaid (conf k (length k.published - 
 pub others_revived : (d : ℕ) (v w : Told) → w ≡ record v { notes = new_life d v.notes } → LeavesOthers d v w
 others_revived d v w e = let b : Told = record v { notes = with_life d (armed d v.notes) v.notes } in
     others_then d v b w (others_life d (armed d v.notes) v b v.found refl) (others_life d (revived d b.notes) b w v.found e)
+
+-- ## Steps
+
+-- a section that got a hold took seven
+pub hold_steps : (d : ℕ) (v w : Told) (a b c e f h : Counted) → b ≡ record a { own = a.own + 1 } → c ≡ record b { clock = b.clock + 1 } → e ≡ record c { row = c.row + 1 }
+    → Gets d v w e f → h ≡ record f { own = f.own + 1 } → all_steps h ≡ all_steps a + 7
+hold_steps d v w a b c e f h enters draws loads gets leaves = let one = once gets.mode in
+    omega (arith, ap all_steps enters, ap all_steps draws, ap all_steps loads, ap all_steps gets.ticks, ap all_steps leaves)

@@ -5,6 +5,7 @@ use Rattle.ref_state.specs.declared.state.Section.TheVariants.{Out}
 use Rattle.ref_state.specs.declared.state.LoadedMode.TheVariants.{NotLoaded}
 use Rattle.ref_state.specs.State.{total, conf, drain}
 use Rattle.table_rule.specs.declared.rule.Told.{Told}
+use Rattle.table_rule.specs.Counted.{Counted}
 use Rattle.table_rule.specs.Shown.{claims_of}
 
 -- a seat whose section is closed, that keeps no hold and may draw its own calls
@@ -28,3 +29,7 @@ IsIn phase disk v = (drain v.notes disk).phase ≡ phase
 -- the other disks' references are in the phases that they were in
 abbrev pub LeavesOthers : ℕ → Told → Told → Type 0
 LeavesOthers disk v w = (d : ℕ) → d ≢ disk → (drain w.notes d).phase ≡ (drain v.notes d).phase
+
+-- how many steps were taken
+abbrev pub all_steps : Counted → ℕ
+all_steps c = c.own + (c.shared + (c.clock + (c.row + c.turn)))

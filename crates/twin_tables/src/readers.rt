@@ -1,12 +1,13 @@
 //! Calls in read sections: both words read, a hold got and put.
 ghost use Rattle.std.specs.Prelude.{◌≡◌, ◌≢◌, ◌+◌, ◌<◌, ◌≤◌, ◌∷◌, [], IfSome};
 ghost use Rattle.percpu_ref.specs.Holds.{held, MayPut};
-ghost use Rattle.twin_tables.specs.Keeping.{Rests};
+ghost use Rattle.twin_tables.specs.Keeping.{Rests, all_steps};
 
 use crate::meaning::Table;
 use percpu_ref::holds::Hold;
 use percpu_ref::put_kinds::Put;
 use percpu_ref::references::{get, put};
+use rcu_sections::editor::Editor;
 use rcu_sections::sections::{enter, leave, place, row};
 use ref_state::kinds::{BARE, Tag};
 use std::sync::ledger::Ledger;
@@ -45,7 +46,7 @@ pub fn read_pair<L: Ledger>(
 }
 
 /// A bare call in a section of its own that gets a hold on this disk, where the disk is shown
-/// there.
+/// there: seven steps at most.
 pub fn take_hold<L: Ledger>(
     table: &Table,
     seat: &mut Seat<u64>,
@@ -65,6 +66,7 @@ pub fn take_hold<L: Ledger>(
     ensures hold { IfSome result (λ h. (h.disk ≡ disk)
         × (h.part.base.table_id ≡ seat.old.base.table_id)
         × MayPut (held h.part.base.me.0.view.holds)) }
+    ensures steps { all_steps steps.new ≤ all_steps steps.old + 7 }
 {
     let call = Tag {
         kind: BARE,
@@ -124,4 +126,33 @@ pub fn put_back<L: Ledger>(
     ensures left { seat.new.left ≡ seat.old.left }
 {
     put(table, seat, hold, steps)
+}
+
+/// A bare call of the editor in a section of its own: the first word there.
+pub fn read_as_editor<L: Ledger>(
+    table: &Table,
+    editor: &mut Editor<u64>,
+    number: u32,
+    steps: &mut Steps<L>,
+) -> u64
+    requires own { editor.old.seat.base.table_id ≡ table.now.table.shared.table_id }
+    requires rows { table.now.table.shared.key.rows ≡ 2 }
+    requires rests { Rests 0 editor.old.seat.base.me.0 }
+    requires left { 0 < editor.old.seat.left }
+    ensures own { editor.new.seat.base.table_id ≡ editor.old.seat.base.table_id }
+    ensures kept { (editor.new.words ≡ editor.old.words) × (editor.new.bases ≡ editor.old.bases)
+        × (editor.new.seats ≡ editor.old.seats) × (editor.new.disks ≡ editor.old.disks) }
+    ensures notes { editor.new.seat.base.me.0.notes ≡ editor.old.seat.base.me.0.notes }
+    ensures left { editor.new.seat.left + 1 ≡ editor.old.seat.left }
+{
+    let call = Tag {
+        kind: BARE,
+        caller: 0,
+        number,
+    };
+    let mut section = enter(table, &mut editor.seat, steps);
+    let _ = place(table, &mut section, call, steps);
+    let word = row(table, &mut section, 0, steps);
+    leave(table, section, steps);
+    word
 }

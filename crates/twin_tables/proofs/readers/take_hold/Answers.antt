@@ -1,4 +1,4 @@
-use Rattle.std.proofs.Common.{Option, ◌≡◌, ◌≢◌, ◌∙◌, ℕ, sym, refl, ap, subst}
+use Rattle.std.proofs.Common.{Option, ◌≡◌, ◌≢◌, ◌∙◌, ℕ, sym, refl, ap, subst, arith}
 use Rattle.atomic_table.specs.Table.{Me}
 use Rattle.table_rule.specs.declared.rule.Told.{Told}
 use Rattle.twin_tables.proofs.Keepers as keepers
@@ -41,3 +41,7 @@ returns-clause-rests g c =
     let rests = keepers.got_rests c.args.seat.now.number c.place-at.result.0 c.place-at.result.1 tag v c.enter-section.result.seat.now.base.me.0 c.place-at.new.section.seat.now.base.me.0 (ap (λ (z : Me (Option ℕ) Told). z.0) c.enter-section.ensures.view) c.place-at.ensures.drew c.requires.rests c.args.disk _ _ c.get-hold.new.section.seat.now.base.me.0 c.leave-2.new.section.0.base.me.0 got (ap (λ (z : Me (Option ℕ) Told). z.0) c.leave-2.ensures.view) in
     let numbers : c.leave-2.new.section.0.number ≡ c.args.seat.now.number = c.leave-2.new.section.0.number_is ∙ (ap (λ (z : Told). z.view.number) left ∙ (ap (λ (z : Told). z.view.number) c.place-at.ensures.drew.told
     ∙ (ap (λ (z : Me (Option ℕ) Told). z.0.view.number) c.enter-section.ensures.view ∙ sym c.args.seat.now.number_is))) in subst (λ (z : Seat ℕ). Rests z.number z.base.me.0) (sym back) (subst (λ k. Rests k c.leave-2.new.section.0.base.me.0) (sym numbers) rests)
+
+pub returns-clause-steps : goal.returns-clause-steps
+returns-clause-steps g c = let e = keepers.hold_steps c.args.disk c.row-shown.new.section.seat.now.base.me.0 c.get-hold.new.section.seat.now.base.me.0 c.args.steps.now c.enter-section.new.steps c.place-at.new.steps c.row-shown.new.steps c.get-hold.new.steps c.leave-2.new.steps
+    c.enter-section.ensures.ticks c.place-at.ensures.ticks c.row-shown.ensures.ticks c.get-hold.ensures.gets c.leave-2.ensures.ticks in omega (arith, e)
