@@ -13,7 +13,7 @@ use Rattle.table_rule.specs.Shown.{claims_but, claims_only, cutting, part_of, jo
 use Rattle.table_rule.specs.Words.{at, ModeOf, SharedOf}
 use Rattle.table_rule.specs.Counted.{Counted}
 use Rattle.percpu_ref.specs.declared.put_kinds.Put.TheVariants.{Kept, Last}
-use Rattle.percpu_ref.specs.Holds.{MayPut, own_steps, shared_steps, counter_found, put_of, CountsOnce}
+use Rattle.percpu_ref.specs.Holds.{MayPut, own_steps, shared_steps, words_found, put_of, CountsOnce}
 
 -- ## One hold that passes a test
 
@@ -87,7 +87,7 @@ pub put_last : (n b : ℕ) → n ≢ 0 → b ≡ 1 → Last ≡ put_of n b
 put_last zero b ne e = absurd (ne refl)
 put_last (suc n) b ne e = sym (ap (λ x. if x then Last else Kept) (eq-eqb b 1 e))
 
-pub found_killed : (d n b : ℕ) (fs : List (ℕ × ℕ)) → n ≢ 0 → (at (SharedOf d), b) ∷ ((at (ModeOf d), n) ∷ fs) ≡ counter_found d n b fs
+pub found_killed : (d n b : ℕ) (fs : List (ℕ × ℕ)) → n ≢ 0 → (at (SharedOf d), b) ∷ ((at (ModeOf d), n) ∷ fs) ≡ words_found d n b fs
 found_killed d zero b fs ne = absurd (ne refl)
 found_killed d (suc n) b fs ne = refl
 
@@ -123,7 +123,7 @@ joined v u none entries left claims =
 
 abbrev pub put_after : ℕ → ℕ → ℕ → Told → Told
 put_after d mode before z = let w : Told = record z { view = after_enter z.view } in
-    let p : Told = record w { view = after_put d w.view; found = counter_found d mode before w.found } in record p { view = after_leave p.view }
+    let p : Told = record w { view = after_put d w.view; found = words_found d mode before w.found } in record p { view = after_leave p.view }
 
 module _ (d : ℕ) (v u : Told) (h : Hold) (one : u.view.holds ≡ h ∷ []) (here : h.disk ≡ d) (may : MayPut h) (none : v.view.holds ≡ []) (entries : u.view.entries ≡ []) (left : u.view.left ≡ 0) (claims : u.claims ≡ []) where
   taken_in : (joining v u).view.holds ≡ h ∷ []
@@ -139,14 +139,14 @@ module _ (d : ℕ) (v u : Told) (h : Hold) (one : u.view.holds ≡ h ∷ []) (he
     view = record v.view { word = ((v.view.word + 1) % word_end + 1) % word_end; loaded = NotLoaded; seen = max v.view.seen u.view.seen };
     known = longer v.known u.known;
     heard = v.known ∷ (u.known ∷ (u.heard ++ v.heard));
-    found = counter_found d mode before v.found;
+    found = words_found d mode before v.found;
   }
   put_told mode before closed = let gone : without_least (may_put d) u.view.holds ≡ v.view.holds = ap (without_least (may_put d)) one ∙ (without_one (may_put d) h (may_be_put d h here may) ∙ sym none) in
       ap (put_after d mode before) (joined v u none entries left claims) ∙ λ i. record v {
         view = record v.view { word = ((v.view.word + 1) % word_end + 1) % word_end; section = sym closed i; loaded = NotLoaded; holds = gone i; seen = max v.view.seen u.view.seen };
         known = longer v.known u.known;
         heard = v.known ∷ (u.known ∷ (u.heard ++ v.heard));
-        found = counter_found d mode before v.found;
+        found = words_found d mode before v.found;
       }
 
 pub put_ticks : (mode : ℕ) (a b c d e : Counted) → b ≡ record a { clock = a.clock + 1 } → c ≡ record b { own = b.own + 1 }

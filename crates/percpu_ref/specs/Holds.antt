@@ -25,9 +25,9 @@ no_hold = record {
 }
 
 -- the one hold of a part
-abbrev pub held : List HoldOf → HoldOf
-held [] = no_hold
-held (h ∷ hs) = h
+abbrev pub the_hold : List HoldOf → HoldOf
+the_hold [] = no_hold
+the_hold (h ∷ hs) = h
 
 -- a hold may be put where a bare call got it, or once the Execute of its command is placed
 abbrev pub MayPut : HoldOf → Type 0
@@ -48,10 +48,11 @@ shared_steps (suc m) = 1
 abbrev pub CountsOnce : Type 0
 CountsOnce = (mode : ℕ) → own_steps mode + shared_steps mode ≡ 1
 
--- what its loads and steps found: the mode, and once that is killed the shared count before its step
-abbrev pub counter_found : ℕ → ℕ → ℕ → List (ℕ × ℕ) → List (ℕ × ℕ)
-counter_found d zero before fs = (at (ModeOf d), 0) ∷ fs
-counter_found d (suc m) before fs = (at (SharedOf d), before) ∷ ((at (ModeOf d), suc m) ∷ fs)
+-- what its loads and steps found: the mode, and once that is killed the shared count before its
+-- step
+abbrev pub words_found : ℕ → ℕ → ℕ → List (ℕ × ℕ) → List (ℕ × ℕ)
+words_found d zero before fs = (at (ModeOf d), 0) ∷ fs
+words_found d (suc m) before fs = (at (SharedOf d), before) ∷ ((at (ModeOf d), suc m) ∷ fs)
 
 -- a put is the last where it found 1 on the shared count of a killed reference, and so left 0. The
 -- bias keeps that count far from 1 until the fold
@@ -69,7 +70,7 @@ pub record Gets (d : ℕ) (v w : Told) (a b : Counted) : Type 0 where
   pub before : ℕ
   pub told : w ≡ record v {
     view = record v.view { loaded = NotLoaded; section = section_got v.view.section };
-    found = counter_found d mode before v.found;
+    found = words_found d mode before v.found;
   }
   pub ticks : b ≡ record a {
     own = a.own + own_steps mode;
@@ -91,7 +92,7 @@ pub record Puts (d : ℕ) (part v w : Told) (put : Put) (a b : Counted) : Type 0
     };
     known = longer v.known part.known;
     heard = v.known ∷ (part.known ∷ (part.heard ++ v.heard));
-    found = counter_found d mode before v.found;
+    found = words_found d mode before v.found;
   }
   pub ticks : b ≡ record a {
     own = a.own + (2 + own_steps mode);

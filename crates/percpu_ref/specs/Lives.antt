@@ -1,4 +1,5 @@
--- The life of a disk's reference, as the editor knows it: live, killed, folded, drained, live again.
+-- The life of a disk's reference, as the editor knows it: live, killed, folded, drained, live
+-- again.
 use Rattle.std.specs.Prelude.{◌≡◌, ◌≢◌, ℕ, ◌<◌, List, map, length, slice_index_or, Option, Some, None}
 use Rattle.ref_state.specs.declared.state.Count.{Count}
 use Rattle.ref_state.specs.declared.state.Drain.{Drain}
@@ -37,8 +38,8 @@ folded_life counters b = record b {
   bases = map count_or counters;
 }
 
--- each own counter was looked at, and then their sum went into the shared count with the bias taken
--- off
+-- each own counter was looked at, and then their sum went into the shared count with the bias
+-- taken off
 pub record FoldsNow (disk : ℕ) (v w : Told) : Type 0 where
   pub counters : List (Option Count)
   pub found : List (ℕ × ℕ)

@@ -23,7 +23,8 @@ pub(crate) fn sum_counters<S, M: Means<S>, L: Ledger>(
     requires near { (disk < table.now.table.shared.key.disks) × (disk < 64) }
     requires seats { (seats ≡ seat.old.base.me.0.seats) × (seats ≤ 32) }
     requires killed { (drain seat.old.base.me.0.notes disk).phase ≡ IsInKilled }
-    requires passed { AllPassed seat.old.base.me.0.seats (drain seat.old.base.me.0.notes disk).marks }
+    requires passed { AllPassed seat.old.base.me.0.seats
+        (drain seat.old.base.me.0.notes disk).marks }
     requires long { length (drain seat.old.base.me.0.notes disk).looked ≡ seats }
     ensures own { seat.new.base.table_id ≡ seat.old.base.table_id }
     ensures number { seat.new.number ≡ seat.old.number }

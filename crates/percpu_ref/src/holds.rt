@@ -1,6 +1,6 @@
 //! A hold as a value.
 ghost use Rattle.std.specs.Prelude.{◌≡◌, ◌∷◌, ◌<◌, []};
-ghost use Rattle.percpu_ref.specs.Holds.{held};
+ghost use Rattle.percpu_ref.specs.Holds.{the_hold};
 
 use target_table::seats::Part;
 
@@ -10,8 +10,8 @@ pub struct Hold<S> {
     pub part: Part<S>,
     /// The disk.
     pub disk: u32,
-    pub ghost one: { part.base.me.0.view.holds ≡ held part.base.me.0.view.holds ∷ [] },
-    pub ghost disk_is: { disk ≡ (held part.base.me.0.view.holds).disk },
+    pub ghost one: { part.base.me.0.view.holds ≡ the_hold part.base.me.0.view.holds ∷ [] },
+    pub ghost disk_is: { disk ≡ (the_hold part.base.me.0.view.holds).disk },
     pub ghost alone: { (part.left ≡ 0) × (part.base.me.0.view.entries ≡ [])
         × (part.base.me.0.claims ≡ []) },
 }

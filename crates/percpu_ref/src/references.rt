@@ -5,7 +5,7 @@ ghost use Rattle.ref_state.specs.declared.state.LoadedMode.TheVariants.{NotLoade
 ghost use Rattle.ref_state.specs.State.{is_open};
 ghost use Rattle.ref_state.specs.Steps.{after_get, after_put, hold_of, is_on, may_put, Some_where};
 ghost use Rattle.table_rule.specs.Plays.{MayGet};
-ghost use Rattle.percpu_ref.specs.Holds.{held, MayPut, Gets, Puts, own_steps, shared_steps, counter_found, put_of};
+ghost use Rattle.percpu_ref.specs.Holds.{the_hold, MayPut, Gets, Puts, own_steps, shared_steps, words_found, put_of};
 
 use crate::holds::Hold;
 use crate::put_kinds::Put;
@@ -33,7 +33,7 @@ fn count_up<S, M: Means<S>, L: Ledger>(
         ≡ (
           record seat.old.base.me.0 {
             view = after_get disk seat.old.base.me.0.view;
-            found = counter_found disk mode before seat.old.base.me.0.found;
+            found = words_found disk mode before seat.old.base.me.0.found;
           },
           seat.old.base.me.1,
         )) × (steps.new ≡ record steps.old {
@@ -69,7 +69,7 @@ fn count_down<S, M: Means<S>, L: Ledger>(
         ≡ (
           record seat.old.base.me.0 {
             view = after_put disk seat.old.base.me.0.view;
-            found = counter_found disk mode before seat.old.base.me.0.found;
+            found = words_found disk mode before seat.old.base.me.0.found;
           },
           seat.old.base.me.1,
         )) × (steps.new ≡ record steps.old {
@@ -129,7 +129,7 @@ pub fn put<S, M: Means<S>, L: Ledger>(
     requires near { (hold.disk < table.now.table.shared.key.disks) × (hold.disk < 64) }
     requires closed { seat.old.base.me.0.view.section ≡ Out }
     requires free { seat.old.base.me.0.view.holds ≡ [] }
-    requires may { MayPut (held hold.part.base.me.0.view.holds) }
+    requires may { MayPut (the_hold hold.part.base.me.0.view.holds) }
     ensures own { (seat.new.base.table_id ≡ seat.old.base.table_id)
         × (seat.new.base.me.1 ≡ seat.old.base.me.1) }
     ensures puts { Puts hold.disk hold.part.base.me.0 seat.old.base.me.0 seat.new.base.me.0 result

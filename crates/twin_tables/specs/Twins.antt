@@ -1,5 +1,6 @@
--- A target of two disks and two words of configuration, which each edit sets both to its number: the
--- word of a disk isn't 0 where the disk is shown. It has no commands, so a drain may end at once.
+-- A target of two disks and two words of configuration, which each edit sets both to its number:
+-- the word of a disk isn't 0 where the disk is shown. It has no commands, so a drain may end at
+-- once.
 use Rattle.std.specs.Prelude.{◌≡◌, ◌≢◌, ℕ, ◌<◌, ◌==◌, Bool, true, false, cond, List, [], ◌∷◌, Option, Some, None, is_none, refl}
 use Rattle.std.proofs.Common.{ap, sym, subst, ◌∙◌, ne_eqb, lt-ltb}
 use Rattle.ref_state.specs.declared.kinds.Tag.{Tag}

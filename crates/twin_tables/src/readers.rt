@@ -1,6 +1,6 @@
 //! Calls in read sections: both words read, a hold got and put.
 ghost use Rattle.std.specs.Prelude.{◌≡◌, ◌≢◌, ◌+◌, ◌<◌, ◌≤◌, ◌∷◌, [], IfSome};
-ghost use Rattle.percpu_ref.specs.Holds.{held, MayPut};
+ghost use Rattle.percpu_ref.specs.Holds.{the_hold, MayPut};
 ghost use Rattle.twin_tables.specs.Keeping.{Rests, all_steps};
 
 use crate::meaning::Table;
@@ -65,7 +65,7 @@ pub fn take_hold<L: Ledger>(
     ensures left { seat.new.left + 1 ≡ seat.old.left }
     ensures hold { IfSome result (λ h. (h.disk ≡ disk)
         × (h.part.base.table_id ≡ seat.old.base.table_id)
-        × MayPut (held h.part.base.me.0.view.holds)) }
+        × MayPut (the_hold h.part.base.me.0.view.holds)) }
     ensures steps { all_steps steps.new ≤ all_steps steps.old + 7 }
 {
     let call = Tag {
@@ -118,7 +118,7 @@ pub fn put_back<L: Ledger>(
         × (hold.part.base.table_id ≡ table.now.table.shared.table_id) }
     requires plan { table.now.table.shared.key.disks ≡ 2 }
     requires near { hold.disk < 2 }
-    requires may { MayPut (held hold.part.base.me.0.view.holds) }
+    requires may { MayPut (the_hold hold.part.base.me.0.view.holds) }
     requires rests { Rests seat.old.number seat.old.base.me.0 }
     ensures own { seat.new.base.table_id ≡ seat.old.base.table_id }
     ensures number { seat.new.number ≡ seat.old.number }
