@@ -101,9 +101,6 @@ module _ {S : Type 0} (d n m sum : ℕ) (f : List (ℕ × ℕ)) (a b c : Me S To
     told = ap (λ (z : Me S Told). z.0) over;
   }
 
-  pub stays_by : c.1 ≡ a.1
-  stays_by = ap (λ (z : Me S Told). z.1) over
-
   pub seats_by : c.0.seats ≡ a.0.seats
   seats_by = ap (λ (z : Me S Told). z.0.seats) over
 

@@ -35,12 +35,6 @@ unseen_not_passed e = cc
 noted_not_passed : (m : ℕ) → mark_of.Noted m ≢ mark_of.Passed
 noted_not_passed m e = cc
 
--- a noted word that is even is that of a seat which has passed
-pub even_passed : (x : ℕ) (y : Mark) → (y ≢ mark_of.Passed → y ≡ looked mark_of.Unseen x) → x % 2 ≡ 0 → y ≡ mark_of.Passed
-even_passed x mark_of.Unseen h e = absurd (noted_not_unseen x (h unseen_not_passed))
-even_passed x (mark_of.Noted m) h e = h (noted_not_passed m) ∙ ap (λ b. if b then mark_of.Noted x else mark_of.Passed) (ne_eqb (x % 2) 1 (omega arith))
-even_passed x mark_of.Passed h e = refl
-
 same_noted : (m x : ℕ) → mark_of.Noted m ≡ looked mark_of.Unseen x → m ≡ x
 same_noted m x = by_case (is_odd x)
   where

@@ -8,11 +8,10 @@ use Rattle.ref_state.specs.declared.state.Editor.{Editor}
 use Rattle.ref_state.specs.State.{conf, overlaid, drain, no_drain, total}
 use Rattle.table_rule.specs.declared.rule.Told.{Told}
 use Rattle.table_rule.specs.Shown.{claims_of}
-use Rattle.table_rule.specs.Plays.{Published, Drew, Ended, drawn, ended, spare_of, with_life, armed, revived}
+use Rattle.table_rule.specs.Plays.{Published, Drew, Ended, ended, spare_of, with_life, armed, revived}
 use Rattle.table_rule.specs.Counted.{Counted}
 use Rattle.ref_state.specs.declared.kinds.Tag.{Tag}
 use Rattle.ref_state.specs.declared.state.Published.{Published as Published_}
-use Rattle.ref_state.specs.declared.state.Section.TheVariants.{Placed}
 use Rattle.ref_state.specs.Steps.{after_enter, after_leave}
 use Rattle.percpu_ref.specs.Holds.{Gets}
 use Rattle.table_rule.proofs.Claiming.{extended_total}
@@ -70,9 +69,6 @@ module _ (n place serial : ℕ) (tag : Tag) (v a b : Told) (enters : a ≡ enter
   pub holds_b : b.view.holds ≡ []
   holds_b = ap (λ (z : Told). z.view.holds) drew.told ∙ (ap (λ (z : Told). z.view.holds) enters ∙ h.none)
 
-  pub section_b : b.view.section ≡ Placed (drawn place serial tag)
-  section_b = ap (λ (z : Told). z.view.section) drew.told
-
   -- a section that got nothing is left
   pub plain_rests : (z : Told) → z ≡ left_by b → Rests n z
   plain_rests z e = subst (Rests n) (sym e) record {
@@ -107,10 +103,6 @@ edited n place serial tag v w m ps h set_both p =
     }
 
 -- ## Lives
-
--- what is kept where only a disk's life is changed
-pub edits_life : (n d : ℕ) (b : Drain) (v w : Told) (f : List (ℕ × ℕ)) → w ≡ record v { notes = with_life d b v.notes; found = f } → Edits n v → Edits n w
-edits_life n d b v w f e h = subst (Edits n) (sym e) record { claim = h.claim; confs = h.confs; before = h.before; shown = h.shown }
 
 pub others_life : (d : ℕ) (b : Drain) (v w : Told) (f : List (ℕ × ℕ)) → w ≡ record v { notes = with_life d b v.notes; found = f } → LeavesOthers d v w
 others_life d b v w f e q ne = ap (λ (z : Told). (drain z.notes q).phase) e ∙ ap (λ (z : Drain). z.phase) (get_or-set_other v.notes.drains d q b no_drain ne)
