@@ -17,7 +17,7 @@ use twin_tables::meaning::Table;
 use twin_tables::readers::hold_once;
 
 // How often each seat gets a hold and puts it.
-const HOLDS: u32 = 5000;
+const HOLDS: u32 = 50000;
 
 // How often both disks are disabled and enabled again.
 const CYCLES: u32 = 200;
@@ -27,7 +27,7 @@ fn hold_all<L: Ledger>(table: &Table, seat: Seat<u64>, steps: Steps<L>)
     requires own { seat.base.table_id ≡ table.now.table.shared.table_id }
     requires plan { (table.now.table.shared.key.rows ≡ 2) × (table.now.table.shared.key.disks ≡ 2) }
     requires rests { Rests seat.number seat.base.me.0 }
-    requires left { 5000 ≤ seat.left }
+    requires left { 50000 ≤ seat.left }
 {
     let mut steps = steps;
     let mut seat = seat;
@@ -72,7 +72,7 @@ fn hold_two<R: Threads + Sync, A: Ledger + Send, B: Ledger + Send>(
         × (two.base.table_id ≡ table.now.table.shared.table_id) }
     requires plan { (table.now.table.shared.key.rows ≡ 2) × (table.now.table.shared.key.disks ≡ 2) }
     requires rests { Rests one.number one.base.me.0 × Rests two.number two.base.me.0 }
-    requires left { (5000 ≤ one.left) × (5000 ≤ two.left) }
+    requires left { (50000 ≤ one.left) × (50000 ≤ two.left) }
 {
     let _ = join(
         rt,
@@ -97,12 +97,12 @@ fn hold_and_cycle<R: Threads + Sync, A: Ledger + Send, B: Ledger + Send>(
     requires rests { Rests three.number three.base.me.0 }
     requires edits { Edits 1 editor.seat.base.me.0 }
     requires live { IsIn IsLive 0 editor.seat.base.me.0 × IsIn IsLive 1 editor.seat.base.me.0 }
-    requires left { (5000 ≤ three.left) × (800 ≤ editor.seat.left) }
+    requires left { (50000 ≤ three.left) × (800 ≤ editor.seat.left) }
 {
-    let (_, cycles) = join(
+    let (cycles, _) = join(
         rt,
-        move || hold_all(table, three, first),
         move || cycle_all(table, editor, second),
+        move || hold_all(table, three, first),
     );
     cycles
 }
@@ -127,7 +127,7 @@ fn drain_under_fire<
     requires third { (third.name ≡ C.name) × (third.parts ≡ C.parts) × (C.parts ≡ 5) }
     requires fourth { (fourth.name ≡ D.name) × (fourth.parts ≡ D.parts) × (D.parts ≡ 5) }
 {
-    let (table, editor, queues) = five(alloc, 800, 5000)?;
+    let (table, editor, queues) = five(alloc, 800, 50000)?;
     let Queues {
         one,
         two,
@@ -147,7 +147,7 @@ fn drain_under_fire<
             requires plan { (table.now.table.shared.key.rows ≡ 2)
                 × (table.now.table.shared.key.disks ≡ 2) }
             requires rests { Rests one.number one.base.me.0 × Rests two.number two.base.me.0 }
-            requires left { (5000 ≤ one.left) × (5000 ≤ two.left) }
+            requires left { (50000 ≤ one.left) × (50000 ≤ two.left) }
         { hold_two(rt, table, one, two, first, second) },
         move ||
             requires own { (three.base.table_id ≡ table.now.table.shared.table_id)
@@ -158,7 +158,7 @@ fn drain_under_fire<
             requires edits { Edits 1 editor.seat.base.me.0 }
             requires live { IsIn IsLive 0 editor.seat.base.me.0
                 × IsIn IsLive 1 editor.seat.base.me.0 }
-            requires left { (5000 ≤ three.left) × (800 ≤ editor.seat.left) }
+            requires left { (50000 ≤ three.left) × (800 ≤ editor.seat.left) }
         { hold_and_cycle(rt, table, three, editor, third, fourth) },
     );
     Ok(cycles)

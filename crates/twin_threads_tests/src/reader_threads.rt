@@ -16,20 +16,23 @@ use twin_tables::ground::{Queues, five};
 use twin_tables::meaning::Table;
 use twin_tables::readers::read_pair;
 
-// How many edits are made, and how often each reader looks.
+// How many edits are made.
 const EDITS: u32 = 10000;
+
+// How often each reader looks.
+const LOOKS: u32 = 100000;
 
 // Looks so often: false where the words were once apart.
 fn read_all<L: Ledger>(table: &Table, seat: Seat<u64>, steps: Steps<L>) -> bool
     requires own { seat.base.table_id ≡ table.now.table.shared.table_id }
     requires rows { table.now.table.shared.key.rows ≡ 2 }
     requires rests { Rests seat.number seat.base.me.0 }
-    requires left { 10000 ≤ seat.left }
+    requires left { 100000 ≤ seat.left }
 {
     let mut steps = steps;
     let mut seat = seat;
     let mut number = 0;
-    while number < EDITS {
+    while number < LOOKS {
         let (_place, _serial, first, second) = read_pair(table, &mut seat, number, &mut steps);
         if first != second {
             return false;
@@ -72,7 +75,7 @@ fn read_two<R: Threads + Sync, A: Ledger + Send, B: Ledger + Send>(
         × (two.base.table_id ≡ table.now.table.shared.table_id) }
     requires rows { table.now.table.shared.key.rows ≡ 2 }
     requires rests { Rests one.number one.base.me.0 × Rests two.number two.base.me.0 }
-    requires left { (10000 ≤ one.left) × (10000 ≤ two.left) }
+    requires left { (100000 ≤ one.left) × (100000 ≤ two.left) }
 {
     let (a, b) = join(
         rt,
@@ -94,7 +97,7 @@ fn read_beside_edits<A: Ledger + Send, B: Ledger + Send, C: Ledger + Send, R: Th
     requires second { (second.name ≡ B.name) × (second.parts ≡ B.parts) × (B.parts ≡ 5) }
     requires third { (third.name ≡ C.name) × (third.parts ≡ C.parts) × (C.parts ≡ 5) }
 {
-    let (table, editor, queues) = five(alloc, 10000, 10000)?;
+    let (table, editor, queues) = five(alloc, 10000, 100000)?;
     let Queues {
         one,
         two,
@@ -105,16 +108,16 @@ fn read_beside_edits<A: Ledger + Send, B: Ledger + Send, C: Ledger + Send, R: Th
     let second = Steps::<B>::start(second);
     let third = Steps::<C>::start(third);
     let table = &table;
-    let (readers, edits) = join(
+    let (edits, readers) = join(
         rt,
+        move || edit_all(table, editor, third),
         move ||
             requires own { (one.base.table_id ≡ table.now.table.shared.table_id)
                 × (two.base.table_id ≡ table.now.table.shared.table_id) }
             requires rows { table.now.table.shared.key.rows ≡ 2 }
             requires rests { Rests one.number one.base.me.0 × Rests two.number two.base.me.0 }
-            requires left { (10000 ≤ one.left) × (10000 ≤ two.left) }
+            requires left { (100000 ≤ one.left) × (100000 ≤ two.left) }
         { read_two(rt, table, one, two, first, second) },
-        move || edit_all(table, editor, third),
     );
     Ok(readers && edits)
 }

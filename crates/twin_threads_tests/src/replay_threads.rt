@@ -17,7 +17,7 @@ use twin_tables::meaning::Table;
 use twin_tables::readers::read_pair;
 
 // How many calls each seat places.
-const CALLS: u32 = 500;
+const CALLS: u32 = 20000;
 
 // How many edits are published.
 const EDITS: u32 = 1000;
@@ -38,7 +38,7 @@ fn serve<L: Ledger>(
     requires own { seat.base.table_id ≡ table.now.table.shared.table_id }
     requires rows { table.now.table.shared.key.rows ≡ 2 }
     requires rests { Rests seat.number seat.base.me.0 }
-    requires left { 500 ≤ seat.left }
+    requires left { 20000 ≤ seat.left }
 {
     let mut steps = steps;
     let mut seat = seat;
@@ -99,7 +99,7 @@ fn serve_two<R: Threads + Sync, A: Ledger + Send, B: Ledger + Send>(
         × (two.base.table_id ≡ table.now.table.shared.table_id) }
     requires rows { table.now.table.shared.key.rows ≡ 2 }
     requires rests { Rests one.number one.base.me.0 × Rests two.number two.base.me.0 }
-    requires left { (500 ≤ one.left) × (500 ≤ two.left) }
+    requires left { (20000 ≤ one.left) × (20000 ≤ two.left) }
 {
     let (a, b) = join(
         rt,
@@ -126,21 +126,21 @@ fn serve_and_publish<A: Ledger + Send, B: Ledger + Send, C: Ledger + Send, R: Th
         × (editor.seat.base.table_id ≡ table.now.table.shared.table_id) }
     requires plan { (table.now.table.shared.key.rows ≡ 2) × (table.now.table.shared.key.disks ≡ 2) }
     requires rests { Rests three.number three.base.me.0 × Rests four.number four.base.me.0 }
-    requires left { (500 ≤ three.left) × (500 ≤ four.left) }
+    requires left { (20000 ≤ three.left) × (20000 ≤ four.left) }
     requires edits { Edits 1 editor.seat.base.me.0 }
     requires live { IsIn IsLive 0 editor.seat.base.me.0 × IsIn IsLive 1 editor.seat.base.me.0 }
 {
-    let (served, edits) = join(
+    let (edits, served) = join(
         rt,
+        move || publish_all(alloc, table, editor, third),
         move ||
             requires own { (three.base.table_id ≡ table.now.table.shared.table_id)
                 × (four.base.table_id ≡ table.now.table.shared.table_id) }
             requires rows { table.now.table.shared.key.rows ≡ 2 }
             requires rests { Rests three.number three.base.me.0
                 × Rests four.number four.base.me.0 }
-            requires left { (500 ≤ three.left) × (500 ≤ four.left) }
+            requires left { (20000 ≤ three.left) × (20000 ≤ four.left) }
         { serve_two(rt, alloc, table, three, four, first, second) },
-        move || publish_all(alloc, table, editor, third),
     );
     let (a, b) = served?;
     Some((a, b, edits?))
@@ -199,7 +199,7 @@ fn run_all<
                 × (two.base.table_id ≡ table.now.table.shared.table_id) }
             requires rows { table.now.table.shared.key.rows ≡ 2 }
             requires rests { Rests one.number one.base.me.0 × Rests two.number two.base.me.0 }
-            requires left { (500 ≤ one.left) × (500 ≤ two.left) }
+            requires left { (20000 ≤ one.left) × (20000 ≤ two.left) }
         { serve_two(rt, alloc, table, one, two, first, second) },
         move ||
             requires own { (three.base.table_id ≡ table.now.table.shared.table_id)
@@ -209,7 +209,7 @@ fn run_all<
                 × (table.now.table.shared.key.disks ≡ 2) }
             requires rests { Rests three.number three.base.me.0
                 × Rests four.number four.base.me.0 }
-            requires left { (500 ≤ three.left) × (500 ≤ four.left) }
+            requires left { (20000 ≤ three.left) × (20000 ≤ four.left) }
             requires edits { Edits 1 editor.seat.base.me.0 }
             requires live { IsIn IsLive 0 editor.seat.base.me.0
                 × IsIn IsLive 1 editor.seat.base.me.0 }
@@ -270,7 +270,7 @@ fn records_are_the_replay(rt: HostRuntime) -> Result<(), AllocError> {
     let Some(answers) = found else {
         return Err(AllocError);
     };
-    let mut slots = vec![in alloc; None; 3000]?;
+    let mut slots = vec![in alloc; None; 81000]?;
     assert!(rt; place_all(slots.as_mut_slice(), answers.first.0.as_slice(), false));
     assert!(rt; place_all(slots.as_mut_slice(), answers.first.1.as_slice(), false));
     assert!(rt; place_all(slots.as_mut_slice(), answers.second.0.as_slice(), false));

@@ -6,8 +6,8 @@ abbrev pub invariant-loop-number : goal.invariant-loop-number
 invariant-loop-number g l = record {
   own : l.seat.base.table_id ≡ l.table.table.shared.table_id;
   rests : Rests l.seat.number l.seat.base.me.0;
-  left : 5000 ≤ l.seat.left + l.number;
+  left : 50000 ≤ l.seat.left + l.number;
 }
 
 abbrev pub decreases-loop-number : goal.decreases-loop-number
-decreases-loop-number g l = 5000 - l.number
+decreases-loop-number g l = 50000 - l.number
