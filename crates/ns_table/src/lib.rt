@@ -1,0 +1,4 @@
+//! The configuration as words of the running table.
+#![tactic(auto)]
+
+pub mod layout;
