@@ -1,1 +1,5 @@
 pub mod Places
+pub mod Placed
+pub mod Limits
+pub mod Spaces
+pub mod Answered

@@ -1,5 +1,5 @@
 -- The words of a configuration: what each of them is, by its place.
-use Rattle.std.specs.Prelude.{ℕ, ◌==◌, ◌&&◌, Bool, false, if◌then◌else◌, List, [], ◌∷◌, ◌++◌, take, drop, map, slice_index, Option, Some, None}
+use Rattle.std.specs.Prelude.{◌≡◌, ℕ, length, ◌==◌, ◌&&◌, Bool, false, if◌then◌else◌, List, [], ◌∷◌, ◌++◌, take, drop, map, slice_index, Option, Some, None}
 use Rattle.std.specs.List.{list_any, range_with_len}
 use Rattle.std.specs.Int.{from_le_bytes, w64}
 use Rattle.std.specs.FinMap as maps
@@ -16,7 +16,7 @@ use Rattle.configfs_tree.specs.declared.configuration.Configuration.{Configurati
 use Rattle.configfs_tree.specs.Links.{subsystem_row, port_row}
 use Rattle.tree_target.specs.Views.{seen_of, space_in, group_in}
 use Rattle.ns_table.specs.declared.layout.TheConstants.{WORDS}
-use Rattle.ns_table.specs.Positions.{Place, Shown, Ready, Changes, SubsystemStamp, PortStamp, State, Space, place_at}
+use Rattle.ns_table.specs.Positions.{Place, Shown, Ready, Changes, SubsystemStamp, PortStamp, State, Space, IsWithin, at, place_at}
 
 -- the serials of the last changes, or 0: of a namespace by the position of its subsystem and its
 -- NSID, and of the ANA changes of subsystems and of ports by their positions
@@ -80,5 +80,17 @@ word_for x (Space sub nsid part) = slice_index
     (space_words (seen_of x.blocks (space_in nsid (subsystem_row x.tree sub)))
     (x.stamps.space sub nsid)) part
 
+-- f of each number below n
+unfoldable pub each_below : (ℕ → ℕ) → ℕ → List ℕ
+each_below f n = map f (range_with_len 0 n)
+
 unfoldable pub words_of : Shape → List ℕ
-words_of x = map (λ w. word_for x (place_at w)) (range_with_len 0 WORDS)
+words_of x = each_below (λ w. word_for x (place_at w)) WORDS
+
+-- each word is the one for its place, and there are no others
+pub record ArePlaced (x : Shape) (ws : List ℕ) : Type 0 where
+  pub all : length ws ≡ WORDS
+  pub each : (p : Place) → IsWithin p → slice_index ws (at p) ≡ word_for x p
+
+abbrev pub WordsArePlaced : Type 0
+WordsArePlaced = (x : Shape) → ArePlaced x (words_of x)

@@ -1,4 +1,5 @@
 //! The configuration as words of the running table.
 #![tactic(auto)]
 
+pub mod law;
 pub mod layout;

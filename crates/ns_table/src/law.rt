@@ -1,0 +1,14 @@
+//! Laws of the words. A law is the contract of a function that does nothing.
+ghost use Rattle.ns_table.specs.Looked.{LookOfWordsIsTheTrees};
+ghost use Rattle.ns_table.specs.Words.{WordsArePlaced};
+
+/// Each word of a configuration is the one for its place, and there are no others.
+pub fn words_are_placed()
+    ensures { WordsArePlaced }
+{}
+
+/// What a configuration's words answer is what its tree, its controllers, its disks and its stamps
+/// answer: of each of the twelve questions of a look.
+pub fn look_of_words_is_the_trees()
+    ensures { LookOfWordsIsTheTrees }
+{}
