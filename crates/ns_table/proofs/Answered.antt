@@ -1,5 +1,5 @@
 -- The look of a configuration's words is the look of the configuration.
-use Rattle.std.proofs.Common.{◌≡◌, ◌≤◌, ◌<◌, ◌⊎◌, ℕ, zero, suc, ◌+◌, ◌==◌, not, max, Bool, true, false, if◌then◌else◌, nat_lt, List, length, get_or, Option, Some, None, is_some, refl, sym, ap, subst, ◌∙◌, inl, inr, arith}
+use Rattle.std.proofs.Common.{◌≡◌, ◌≤◌, ◌<◌, ◌⊎◌, ℕ, zero, suc, ◌+◌, ◌^◌, ◌%◌, ◌==◌, not, max, Bool, true, false, if◌then◌else◌, nat_lt, List, length, get_or, Option, Some, None, is_some, refl, sym, ap, subst, ◌∙◌, inl, inr, arith}
 use Rattle.std.proofs.lemmas.Bool.{eqb-true}
 use Rattle.std.proofs.lemmas.Option.{slice_get_past}
 use Rattle.std.specs.List.{slice_get}
@@ -19,7 +19,7 @@ use Rattle.configfs_tree.proofs.Positions.{port_positions}
 use Rattle.tree_target.specs.Views.{seen_of, space_in, group_in, group_state}
 use Rattle.ns_table.specs.Positions.{at, Ready, Changes, SubsystemStamp, PortStamp, State, Space, space_at, IsNsid, IsGroup, IsController}
 use Rattle.ns_table.specs.Words.{Shape, bit, state_word, words_of, word_for, ArePlaced, space_words}
-use Rattle.ns_table.specs.Looked.{is_nsid, is_group, is_controller, state_in, seen_in, words_answers, shape_answers, FitsTable, LookOfWordsIsTheTrees}
+use Rattle.ns_table.specs.Looked.{is_nsid, is_group, is_controller, state_in, stamp_in, seen_in, words_answers, shape_answers, FitsTable, LookOfWordsIsTheTrees}
 use Rattle.ns_table.proofs.Limits.{nsid-cases, group-cases, controller-cases, lt-cases, if-true, if-false}
 use Rattle.ns_table.proofs.Spaces.{seen-again, stamp-again, fine-seen, nothing-outside, found-passes}
 use Rattle.ns_table.proofs.Placed.{placed}
@@ -56,14 +56,18 @@ seen-is x s n fits =
     | inr t ↦ if-false (is_nsid s n) (seen_in (words_of x) (space_at s n)) NotConfigured seen t.0 (sym (nothing-outside x s n fits t.1))
     ]
 
-stamp-is : (x : Shape) (s n : ℕ) → (words_answers (words_of x) 0).ns_stamp s n ≡ (shape_answers x 0).ns_stamp s n
-stamp-is x s n =
+-- a serial is what its word tells
+serial-again : (word stamp : ℕ) → stamp < 2 ^ 32 → word ≡ stamp → stamp_in word ≡ stamp
+serial-again word stamp small is = omega arith
+
+stamp-is : (x : Shape) (s n : ℕ) → FitsTable x → (words_answers (words_of x) 0).ns_stamp s n ≡ (shape_answers x 0).ns_stamp s n
+stamp-is x s n fits =
     let seen = seen_of x.blocks (space_in n (subsystem_row x.tree s)) in
-    let word = get_or (words_of x) (space_at s n + 10) 0 in
+    let word = stamp_in (get_or (words_of x) (space_at s n + 10) 0) in
     let stamp = x.stamps.space s n in
     elim (nsid-cases s n) [
       inl t ↦ if-true (is_nsid s n) word 0 (if is_nsid s n then stamp else 0) t.0
-        (((placed x).each (Space s n 10) (t.1, omega arith) ∙ stamp-again seen stamp) ∙ sym (if-true (is_nsid s n) stamp 0 stamp t.0 refl))
+        (serial-again (get_or (words_of x) (space_at s n + 10) 0) stamp (fits.stamps.space s n) ((placed x).each (Space s n 10) (t.1, omega arith) ∙ stamp-again seen stamp) ∙ sym (if-true (is_nsid s n) stamp 0 stamp t.0 refl))
     | inr t ↦ if-false (is_nsid s n) word 0 (if is_nsid s n then stamp else 0) t.0 (sym (if-false (is_nsid s n) stamp 0 0 t.0 refl))
     ]
 
@@ -126,12 +130,14 @@ clipped word stamp k most same =
     | inr t ↦ if-false (nat_lt k most) word 0 (if nat_lt k most then stamp else 0) t.0 (sym (if-false (nat_lt k most) stamp 0 0 t.0 refl))
     ]
 
-ana-stamp-is : (x : Shape) (s p : ℕ) → (words_answers (words_of x) 0).ana_stamp s p ≡ (shape_answers x 0).ana_stamp s p
-ana-stamp-is x s p =
+ana-stamp-is : (x : Shape) (s p : ℕ) → FitsTable x → (words_answers (words_of x) 0).ana_stamp s p ≡ (shape_answers x 0).ana_stamp s p
+ana-stamp-is x s p fits =
     let ws = words_of x in
-    let a = clipped (get_or ws (at (SubsystemStamp s)) 0) (x.stamps.subsystem s) s 16 (λ h. (placed x).each (SubsystemStamp s) h) in
-    let b = clipped (get_or ws (at (PortStamp p)) 0) (x.stamps.port p) p 8 (λ h. (placed x).each (PortStamp p) h) in
-    ap (λ (k : ℕ). max k (if nat_lt p 8 then get_or ws (at (PortStamp p)) 0 else 0)) a ∙ ap (λ (k : ℕ). max (if nat_lt s 16 then x.stamps.subsystem s else 0) k) b
+    let of_sub = stamp_in (get_or ws (at (SubsystemStamp s)) 0) in
+    let of_port = stamp_in (get_or ws (at (PortStamp p)) 0) in
+    let a = clipped of_sub (x.stamps.subsystem s) s 16 (λ h. serial-again _ (x.stamps.subsystem s) (fits.stamps.subsystem s) ((placed x).each (SubsystemStamp s) h)) in
+    let b = clipped of_port (x.stamps.port p) p 8 (λ h. serial-again _ (x.stamps.port p) (fits.stamps.port p) ((placed x).each (PortStamp p) h)) in
+    ap (λ (k : ℕ). max k (if nat_lt p 8 then of_port else 0)) a ∙ ap (λ (k : ℕ). max (if nat_lt s 16 then x.stamps.subsystem s else 0) k) b
 
 -- ---- all answers
 pub answered : LookOfWordsIsTheTrees
@@ -142,8 +148,8 @@ answered x serial fits =
       ns = λ s n. seen-is x s n fits i;
       ana = λ p g. ana-is x p g fits i;
       group_made = λ p g. made-is x p g fits i;
-      ns_stamp = λ s n. stamp-is x s n i;
-      ana_stamp = λ s p. ana-stamp-is x s p i;
+      ns_stamp = λ s n. stamp-is x s n fits i;
+      ana_stamp = λ s p. ana-stamp-is x s p fits i;
       ana_count = changes i;
       serial = serial;
       bars = λ c s n o. 0;

@@ -1,5 +1,5 @@
 -- What a configuration answers, and what its words answer.
-use Rattle.std.specs.Prelude.{◌≡◌, ◌≤◌, ◌<◌, ℕ, ◌+◌, ◌*◌, ◌^◌, ◌==◌, ◌&&◌, not, nat_lt, nat_le, max, Bool, false, if◌then◌else◌, List, ◌++◌, length, slice_index, slice_get, Some}
+use Rattle.std.specs.Prelude.{◌≡◌, ◌≤◌, ◌<◌, ℕ, ◌+◌, ◌*◌, ◌%◌, ◌^◌, ◌==◌, ◌&&◌, not, nat_lt, nat_le, max, Bool, false, if◌then◌else◌, List, ◌++◌, length, slice_index, slice_get, Some}
 use Rattle.std.specs.Int.{to_le_bytes, w64}
 use Rattle.std.specs.FinMap as maps
 use Rattle.mem_bdev.specs.Blocks.{Blocks}
@@ -16,7 +16,7 @@ use Rattle.configfs_rows.specs.declared.subsystems.SubsystemRow.{SubsystemRow}
 use Rattle.configfs_tree.specs.Standing.{IsStanding}
 use Rattle.tree_target.specs.Looked.{tree_answers}
 use Rattle.ns_table.specs.Positions.{at, Ready, Changes, SubsystemStamp, PortStamp, State, space_at}
-use Rattle.ns_table.specs.Words.{Shape, words_of}
+use Rattle.ns_table.specs.Words.{Stamps, Shape, words_of}
 
 -- what there are words for
 abbrev pub is_nsid : ℕ → ℕ → Bool
@@ -68,14 +68,20 @@ state_in word =
     else (if word == 15 then Changing
     else Inaccessible)))
 
+-- a stamp is a serial, which 32 bits hold
+abbrev pub stamp_in : ℕ → ℕ
+stamp_in word = word % 2 ^ 32
+
 abbrev pub words_answers : List ℕ → ℕ → Answers
 words_answers ws serial = record {
   ready = λ c. if is_controller c then not (slice_index ws (at (Ready c)) == 0) else false;
   ns = λ s n. if is_nsid s n then seen_in ws (space_at s n) else NotConfigured;
   ana = λ p g. if is_group p g then state_in (slice_index ws (at (State p g))) else Inaccessible;
   group_made = λ p g. if is_group p g then not (slice_index ws (at (State p g)) == 0) else false;
-  ns_stamp = λ s n. if is_nsid s n then slice_index ws (space_at s n + 10) else 0;
-  ana_stamp = λ s p. max (if nat_lt s 16 then slice_index ws (at (SubsystemStamp s)) else 0) (if nat_lt p 8 then slice_index ws (at (PortStamp p)) else 0);
+  ns_stamp = λ s n. if is_nsid s n then stamp_in (slice_index ws (space_at s n + 10)) else 0;
+  ana_stamp = λ s p. max
+      (if nat_lt s 16 then stamp_in (slice_index ws (at (SubsystemStamp s))) else 0)
+      (if nat_lt p 8 then stamp_in (slice_index ws (at (PortStamp p))) else 0);
   ana_count = slice_index ws (at Changes);
   serial = serial;
   bars = λ c s n o. 0;
@@ -99,12 +105,19 @@ pub record IsDisk (d : Blocks) : Type 0 where
   pub block : d.shift ≤ 12
   pub small : length d.blocks * 2 ^ d.shift ≤ MAX_DISK_BYTES
 
+-- stamps are serials
+pub record AreSerials (stamps : Stamps) : Type 0 where
+  pub space : (sub nsid : ℕ) → stamps.space sub nsid < 2 ^ 32
+  pub subsystem : (sub : ℕ) → stamps.subsystem sub < 2 ^ 32
+  pub port : (port : ℕ) → stamps.port port < 2 ^ 32
+
 -- a configuration that a table can show
 pub record FitsTable (x : Shape) : Type 0 where
   pub standing : IsStanding x.tree
   pub identifiers : (sub : List ℕ) (s : SubsystemRow) (nsid : ℕ) (n : NamespaceRow)
       → maps.get x.tree.settings.subsystems sub ≡ Some s → maps.get s.namespaces nsid ≡ Some n
       → HasIdentifiers n
+  pub stamps : AreSerials x.stamps
   pub few_controllers : length x.controllers ≤ 31
   pub few_disks : length x.blocks ≤ 64
   pub disks : (i : ℕ) (d : Blocks) → slice_get x.blocks i ≡ Some d → IsDisk d

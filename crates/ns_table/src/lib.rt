@@ -3,3 +3,5 @@
 
 pub mod law;
 pub mod layout;
+pub mod look;
+pub mod rows;
