@@ -32,6 +32,18 @@ pub record Shape : Type 0 where
   pub blocks : List Blocks
   pub stamps : Stamps
 
+-- before any change was published
+abbrev pub no_stamps : Stamps
+no_stamps = record { space = λ s n. 0; subsystem = λ s. 0; port = λ p. 0 }
+
+abbrev pub opened_shape : Configuration → List ControllerRow → List Blocks → Shape
+opened_shape t controllers blocks = record {
+  tree = t;
+  controllers = controllers;
+  blocks = blocks;
+  stamps = no_stamps;
+}
+
 -- ---- namespaces
 abbrev pub bit : Bool → ℕ
 bit b = if b then 1 else 0
@@ -57,11 +69,12 @@ is_on disk (Some n) = n == disk
 abbrev pub shows : ℕ → NamespaceRow → Bool
 shows disk n = n.enabled && is_on disk n.disk
 
+abbrev pub subsystem_shows : ℕ → SubsystemRow → Bool
+subsystem_shows disk s = list_any (λ (e : ℕ × NamespaceRow). shows disk e.1) (maps.entries s.namespaces)
+
 -- an enabled namespace is on the disk
 unfoldable pub is_shown : Configuration → ℕ → Bool
-is_shown t disk = list_any
-    (λ (s : SubsystemRow). list_any (shows disk) (maps.values s.namespaces))
-    (maps.values t.settings.subsystems)
+is_shown t disk = list_any (subsystem_shows disk) (maps.values t.settings.subsystems)
 
 -- ---- groups
 abbrev pub state_word : Option Ana → ℕ

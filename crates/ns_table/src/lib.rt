@@ -4,4 +4,6 @@
 pub mod law;
 pub mod layout;
 pub mod look;
+pub mod opening;
 pub mod rows;
+pub mod shown;
