@@ -1,5 +1,6 @@
 pub mod Places
 pub mod Placed
+pub mod Slots
 pub mod Limits
 pub mod Spaces
 pub mod Answered

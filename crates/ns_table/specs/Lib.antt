@@ -1,4 +1,5 @@
 pub mod Positions
 pub mod Words
+pub mod Slots
 pub mod Looked
 pub mod Loaded

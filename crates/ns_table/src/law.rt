@@ -1,5 +1,6 @@
 //! Laws of the words. A law is the contract of a function that does nothing.
 ghost use Rattle.ns_table.specs.Looked.{LookOfWordsIsTheTrees};
+ghost use Rattle.ns_table.specs.Slots.{SlotsAreExtents};
 ghost use Rattle.ns_table.specs.Words.{WordsArePlaced};
 
 /// Each word of a configuration is the one for its place, and there are no others.
@@ -11,4 +12,9 @@ pub fn words_are_placed()
 /// answer: of each of the twelve questions of a look.
 pub fn look_of_words_is_the_trees()
     ensures { LookOfWordsIsTheTrees }
+{}
+
+/// Extent `e` of disk number `i` is in slot 8 `i` + `e`.
+pub fn slots_are_extents()
+    ensures { SlotsAreExtents }
 {}

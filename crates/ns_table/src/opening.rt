@@ -2,6 +2,7 @@
 ghost use Rattle.std.specs.Prelude.{◌≡◌, ◌<◌, ◌≤◌, IfOk, if◌then◌else◌, slice_index, take, drop};
 ghost use Rattle.std.specs.Int.{from_le_bytes, w64};
 ghost use Rattle.ns_table.specs.Positions.{place_at, space_place};
+ghost use Rattle.ns_table.specs.Slots.{HaveShapes, slots_of};
 ghost use Rattle.ns_table.specs.Words.{bit, opened_shape, space_words, state_word, word_for, words_of};
 ghost use Rattle.tree_target.specs.Views.{group_in, seen_of, space_in};
 ghost use Rattle.configfs_tree.specs.Links.{port_row, subsystem_row};
@@ -9,9 +10,11 @@ ghost use Rattle.configfs_tree.specs.Links.{port_row, subsystem_row};
 use crate::layout::WORDS;
 use crate::shown::is_disk_shown;
 use configfs_tree::Tree;
+use disk_extents::{Extent, split};
 use mem_bdev::Disk;
 use sqe_cqe::{Controllers, Look, NsRow, Seen};
 use std::alloc::{AllocError, Global};
+use target_table::opening::Opening;
 use tree_target::TreeLook;
 
 fn bit_of(b: bool) -> u64
@@ -128,4 +131,40 @@ pub fn opened_words(
         words.push(word_at(tree, controllers, disks, at))?;
     }
     Ok(words)
+}
+
+/// The extents of all disks: that of disk `d` with number `x` at 8 `d` + `x`.
+pub fn opened_slots(alloc: Global, disks: &[Disk]) -> Result<Vec<Extent>, AllocError>
+    requires { HaveShapes disks.now }
+    ensures { IfOk result (λ v. v.items ≡ slots_of disks.now) }
+{
+    let mut slots = Vec::new(alloc);
+    for disk in disks {
+        split(alloc, disk, &mut slots)?;
+    }
+    Ok(slots)
+}
+
+/// What the running table of a configuration is opened with: its words, the extents of its disks,
+/// and these quotas of places. Want of memory drops all of it.
+pub fn opening(
+    alloc: Global,
+    tree: &Tree,
+    controllers: &Controllers,
+    disks: &[Disk],
+    quotas: Vec<u32>,
+) -> Result<Opening<Extent>, AllocError>
+    requires { HaveShapes disks.now }
+    ensures rows { IfOk result
+        (λ o. o.rows.items ≡ words_of (opened_shape tree.now controllers.now disks.now)) }
+    ensures slots { IfOk result (λ o. o.slots.items ≡ slots_of disks.now) }
+    ensures quotas { IfOk result (λ o. o.quotas ≡ quotas) }
+{
+    let rows = opened_words(alloc, tree, controllers, disks)?;
+    let slots = opened_slots(alloc, disks)?;
+    Ok(Opening {
+        rows,
+        slots,
+        quotas,
+    })
 }
