@@ -33,17 +33,17 @@ not-ready : (cs : List ControllerRow) (c : ℕ) → length cs ≤ 31 → (IsCont
 not-ready cs zero few out = refl
 not-ready cs (suc c) few out =
     elim (lt-cases c 31) [
-      inl h ↦ absurd (out (omega arith, omega arith))
-    | inr h ↦ ap is_ready_at (slice_get_past cs c (omega arith))
+      | inl h ↦ absurd (out (omega arith, omega arith))
+      | inr h ↦ ap is_ready_at (slice_get_past cs c (omega arith))
     ]
 
 ready-is : (x : Shape) (c : ℕ) → FitsTable x → (words_answers (words_of x) 0).ready c ≡ ready_in x.controllers c
 ready-is x c fits =
     let word = get_or (words_of x) (at (Ready c)) 0 in
     elim (controller-cases c) [
-      inl t ↦ if-true (is_controller c) (not (word == 0)) false (ready_in x.controllers c) t.0
-        (ap (λ (w : ℕ). not (w == 0)) ((placed x).each (Ready c) t.1) ∙ bit-again (ready_in x.controllers c))
-    | inr t ↦ if-false (is_controller c) (not (word == 0)) false (ready_in x.controllers c) t.0 (sym (not-ready x.controllers c fits.few_controllers t.1))
+      | inl t ↦ if-true (is_controller c) (not (word == 0)) false (ready_in x.controllers c) t.0
+          (ap (λ (w : ℕ). not (w == 0)) ((placed x).each (Ready c) t.1) ∙ bit-again (ready_in x.controllers c))
+      | inr t ↦ if-false (is_controller c) (not (word == 0)) false (ready_in x.controllers c) t.0 (sym (not-ready x.controllers c fits.few_controllers t.1))
     ]
 
 -- ---- namespaces
@@ -51,9 +51,9 @@ seen-is : (x : Shape) (s n : ℕ) → FitsTable x → (words_answers (words_of x
 seen-is x s n fits =
     let seen = seen_of x.blocks (space_in n (subsystem_row x.tree s)) in
     elim (nsid-cases s n) [
-      inl t ↦ if-true (is_nsid s n) (seen_in (words_of x) (space_at s n)) NotConfigured seen t.0
-        (seen-again (words_of x) (space_at s n) (x.stamps.space s n) seen (λ k small. (placed x).each (Space s n k) (t.1, small)) (fine-seen x s n fits))
-    | inr t ↦ if-false (is_nsid s n) (seen_in (words_of x) (space_at s n)) NotConfigured seen t.0 (sym (nothing-outside x s n fits t.1))
+      | inl t ↦ if-true (is_nsid s n) (seen_in (words_of x) (space_at s n)) NotConfigured seen t.0
+          (seen-again (words_of x) (space_at s n) (x.stamps.space s n) seen (λ k small. (placed x).each (Space s n k) (t.1, small)) (fine-seen x s n fits))
+      | inr t ↦ if-false (is_nsid s n) (seen_in (words_of x) (space_at s n)) NotConfigured seen t.0 (sym (nothing-outside x s n fits t.1))
     ]
 
 -- a serial is what its word tells
@@ -66,9 +66,9 @@ stamp-is x s n fits =
     let word = stamp_in (get_or (words_of x) (space_at s n + 10) 0) in
     let stamp = x.stamps.space s n in
     elim (nsid-cases s n) [
-      inl t ↦ if-true (is_nsid s n) word 0 (if is_nsid s n then stamp else 0) t.0
-        (serial-again (get_or (words_of x) (space_at s n + 10) 0) stamp (fits.stamps.space s n) ((placed x).each (Space s n 10) (t.1, omega arith) ∙ stamp-again seen stamp) ∙ sym (if-true (is_nsid s n) stamp 0 stamp t.0 refl))
-    | inr t ↦ if-false (is_nsid s n) word 0 (if is_nsid s n then stamp else 0) t.0 (sym (if-false (is_nsid s n) stamp 0 0 t.0 refl))
+      | inl t ↦ if-true (is_nsid s n) word 0 (if is_nsid s n then stamp else 0) t.0
+          (serial-again (get_or (words_of x) (space_at s n + 10) 0) stamp (fits.stamps.space s n) ((placed x).each (Space s n 10) (t.1, omega arith) ∙ stamp-again seen stamp) ∙ sym (if-true (is_nsid s n) stamp 0 stamp t.0 refl))
+      | inr t ↦ if-false (is_nsid s n) word 0 (if is_nsid s n then stamp else 0) t.0 (sym (if-false (is_nsid s n) stamp 0 0 t.0 refl))
     ]
 
 -- ---- groups
@@ -109,8 +109,8 @@ ana-is x p g fits =
     let word = get_or (words_of x) (at (State p g)) 0 in
     let o = group_in g (port_row x.tree p) in
     elim (group-cases p g) [
-      inl t ↦ if-true (is_group p g) (state_in word) Inaccessible (group_state o) t.0 (ap state_in ((placed x).each (State p g) t.1) ∙ state-again o)
-    | inr t ↦ if-false (is_group p g) (state_in word) Inaccessible (group_state o) t.0 (sym (ap group_state (none-at x p g (port_row x.tree p) fits refl t.1)))
+      | inl t ↦ if-true (is_group p g) (state_in word) Inaccessible (group_state o) t.0 (ap state_in ((placed x).each (State p g) t.1) ∙ state-again o)
+      | inr t ↦ if-false (is_group p g) (state_in word) Inaccessible (group_state o) t.0 (sym (ap group_state (none-at x p g (port_row x.tree p) fits refl t.1)))
     ]
 
 made-is : (x : Shape) (p g : ℕ) → FitsTable x → (words_answers (words_of x) 0).group_made p g ≡ is_some (group_in g (port_row x.tree p))
@@ -118,16 +118,16 @@ made-is x p g fits =
     let word = get_or (words_of x) (at (State p g)) 0 in
     let o = group_in g (port_row x.tree p) in
     elim (group-cases p g) [
-      inl t ↦ if-true (is_group p g) (not (word == 0)) false (is_some o) t.0 (ap (λ (w : ℕ). not (w == 0)) ((placed x).each (State p g) t.1) ∙ made-again o)
-    | inr t ↦ if-false (is_group p g) (not (word == 0)) false (is_some o) t.0 (sym (ap (λ (m : Option Ana). is_some m) (none-at x p g (port_row x.tree p) fits refl t.1)))
+      | inl t ↦ if-true (is_group p g) (not (word == 0)) false (is_some o) t.0 (ap (λ (w : ℕ). not (w == 0)) ((placed x).each (State p g) t.1) ∙ made-again o)
+      | inr t ↦ if-false (is_group p g) (not (word == 0)) false (is_some o) t.0 (sym (ap (λ (m : Option Ana). is_some m) (none-at x p g (port_row x.tree p) fits refl t.1)))
     ]
 
 -- ---- stamps of ANA changes
 clipped : (word stamp k most : ℕ) → (k < most → word ≡ stamp) → (if nat_lt k most then word else 0) ≡ (if nat_lt k most then stamp else 0)
 clipped word stamp k most same =
     elim (lt-cases k most) [
-      inl t ↦ if-true (nat_lt k most) word 0 (if nat_lt k most then stamp else 0) t.0 (same t.1 ∙ sym (if-true (nat_lt k most) stamp 0 stamp t.0 refl))
-    | inr t ↦ if-false (nat_lt k most) word 0 (if nat_lt k most then stamp else 0) t.0 (sym (if-false (nat_lt k most) stamp 0 0 t.0 refl))
+      | inl t ↦ if-true (nat_lt k most) word 0 (if nat_lt k most then stamp else 0) t.0 (same t.1 ∙ sym (if-true (nat_lt k most) stamp 0 stamp t.0 refl))
+      | inr t ↦ if-false (nat_lt k most) word 0 (if nat_lt k most then stamp else 0) t.0 (sym (if-false (nat_lt k most) stamp 0 0 t.0 refl))
     ]
 
 ana-stamp-is : (x : Shape) (s p : ℕ) → FitsTable x → (words_answers (words_of x) 0).ana_stamp s p ≡ (shape_answers x 0).ana_stamp s p

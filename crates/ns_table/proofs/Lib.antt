@@ -1,6 +1,7 @@
 pub mod Places
 pub mod Placed
 pub mod Slots
+pub mod Disks
 pub mod Limits
 pub mod Spaces
 pub mod Answered

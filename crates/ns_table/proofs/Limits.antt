@@ -35,12 +35,12 @@ no-third a b c p = rw (p, and-false b) (and-false a)
 pub nsid-cases : (s n : ℕ) → ((is_nsid s n ≡ true) × IsNsid s n) ⊎ ((is_nsid s n ≡ false) × (IsNsid s n → ⊥))
 nsid-cases s n =
     elim (cases_lt s 16) [
-      inr a ↦ inr (no-first (nat_lt s 16) (nat_lt 0 n) (nat_lt n 2049) (lt-false s 16 a), λ h. omega arith)
-    | inl a ↦ elim (cases_lt 0 n) [
-        inr b ↦ inr (no-second (nat_lt s 16) (nat_lt 0 n) (nat_lt n 2049) (lt-false 0 n b), λ h. omega arith)
-      | inl b ↦ elim (cases_lt n 2049) [
-          inr e ↦ inr (no-third (nat_lt s 16) (nat_lt 0 n) (nat_lt n 2049) (lt-false n 2049 e), λ h. omega arith)
-        | inl e ↦ inl (three (nat_lt s 16) (nat_lt 0 n) (nat_lt n 2049) (lt-true s 16 a) (lt-true 0 n b) (lt-true n 2049 e), (a, omega arith, omega arith))
+      | inr a ↦ inr (no-first (nat_lt s 16) (nat_lt 0 n) (nat_lt n 2049) (lt-false s 16 a), λ h. omega arith)
+      | inl a ↦ elim (cases_lt 0 n) [
+        | inr b ↦ inr (no-second (nat_lt s 16) (nat_lt 0 n) (nat_lt n 2049) (lt-false 0 n b), λ h. omega arith)
+        | inl b ↦ elim (cases_lt n 2049) [
+          | inr e ↦ inr (no-third (nat_lt s 16) (nat_lt 0 n) (nat_lt n 2049) (lt-false n 2049 e), λ h. omega arith)
+          | inl e ↦ inl (three (nat_lt s 16) (nat_lt 0 n) (nat_lt n 2049) (lt-true s 16 a) (lt-true 0 n b) (lt-true n 2049 e), (a, omega arith, omega arith))
         ]
       ]
     ]
@@ -48,12 +48,12 @@ nsid-cases s n =
 pub group-cases : (p g : ℕ) → ((is_group p g ≡ true) × IsGroup p g) ⊎ ((is_group p g ≡ false) × (IsGroup p g → ⊥))
 group-cases p g =
     elim (cases_lt p 8) [
-      inr a ↦ inr (no-first (nat_lt p 8) (nat_lt 0 g) (nat_lt g 129) (lt-false p 8 a), λ h. omega arith)
-    | inl a ↦ elim (cases_lt 0 g) [
-        inr b ↦ inr (no-second (nat_lt p 8) (nat_lt 0 g) (nat_lt g 129) (lt-false 0 g b), λ h. omega arith)
-      | inl b ↦ elim (cases_lt g 129) [
-          inr e ↦ inr (no-third (nat_lt p 8) (nat_lt 0 g) (nat_lt g 129) (lt-false g 129 e), λ h. omega arith)
-        | inl e ↦ inl (three (nat_lt p 8) (nat_lt 0 g) (nat_lt g 129) (lt-true p 8 a) (lt-true 0 g b) (lt-true g 129 e), (a, omega arith, omega arith))
+      | inr a ↦ inr (no-first (nat_lt p 8) (nat_lt 0 g) (nat_lt g 129) (lt-false p 8 a), λ h. omega arith)
+      | inl a ↦ elim (cases_lt 0 g) [
+        | inr b ↦ inr (no-second (nat_lt p 8) (nat_lt 0 g) (nat_lt g 129) (lt-false 0 g b), λ h. omega arith)
+        | inl b ↦ elim (cases_lt g 129) [
+          | inr e ↦ inr (no-third (nat_lt p 8) (nat_lt 0 g) (nat_lt g 129) (lt-false g 129 e), λ h. omega arith)
+          | inl e ↦ inl (three (nat_lt p 8) (nat_lt 0 g) (nat_lt g 129) (lt-true p 8 a) (lt-true 0 g b) (lt-true g 129 e), (a, omega arith, omega arith))
         ]
       ]
     ]
@@ -61,10 +61,10 @@ group-cases p g =
 pub controller-cases : (c : ℕ) → ((is_controller c ≡ true) × IsController c) ⊎ ((is_controller c ≡ false) × (IsController c → ⊥))
 controller-cases c =
     elim (cases_lt 0 c) [
-      inr a ↦ inr (rw (lt-false 0 c a) refl, λ h. omega arith)
-    | inl a ↦ elim (cases_lt c 32) [
-        inr b ↦ inr (rw (lt-false c 32 b) (and-false (nat_lt 0 c)), λ h. omega arith)
-      | inl b ↦ inl (rw (lt-true 0 c a, lt-true c 32 b) refl, (omega arith, omega arith))
+      | inr a ↦ inr (rw (lt-false 0 c a) refl, λ h. omega arith)
+      | inl a ↦ elim (cases_lt c 32) [
+        | inr b ↦ inr (rw (lt-false c 32 b) (and-false (nat_lt 0 c)), λ h. omega arith)
+        | inl b ↦ inl (rw (lt-true 0 c a, lt-true c 32 b) refl, (omega arith, omega arith))
       ]
     ]
 

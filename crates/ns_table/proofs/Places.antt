@@ -78,16 +78,16 @@ space-there w low high =
 pub used : PositionsAreUsed
 used w h =
     elim (cases_lt w 64) [
-      inl a ↦ placed-as w (Shown w) (shown-again w a) a refl
-    | inr a ↦ elim (cases_lt w 95) [
-        inl b ↦ placed-as w (Ready (w - 63)) (in-ready w a b) (omega arith, omega arith) (omega arith)
-      | inr b ↦ elim (cases_lt w 96) [
-          inl e ↦ let is : w ≡ 95 = omega arith in placed-as w Changes (in-changes w is) tt (sym is)
-        | inr e ↦ elim (cases_lt w 112) [
-            inl f ↦ placed-as w (SubsystemStamp (w - 96)) (in-subsystems w e f) (omega arith) (omega arith)
-          | inr f ↦ elim (cases_lt w 120) [
-              inl g ↦ placed-as w (PortStamp (w - 112)) (in-ports w f g) (omega arith) (omega arith)
-            | inr g ↦ elim (cases_lt w 1144) [ inl j ↦ state-there w g j | inr j ↦ space-there w j h ]
+      | inl a ↦ placed-as w (Shown w) (shown-again w a) a refl
+      | inr a ↦ elim (cases_lt w 95) [
+        | inl b ↦ placed-as w (Ready (w - 63)) (in-ready w a b) (omega arith, omega arith) (omega arith)
+        | inr b ↦ elim (cases_lt w 96) [
+          | inl e ↦ let is : w ≡ 95 = omega arith in placed-as w Changes (in-changes w is) tt (sym is)
+          | inr e ↦ elim (cases_lt w 112) [
+            | inl f ↦ placed-as w (SubsystemStamp (w - 96)) (in-subsystems w e f) (omega arith) (omega arith)
+            | inr f ↦ elim (cases_lt w 120) [
+              | inl g ↦ placed-as w (PortStamp (w - 112)) (in-ports w f g) (omega arith) (omega arith)
+              | inr g ↦ elim (cases_lt w 1144) [ inl j ↦ state-there w g j | inr j ↦ space-there w j h ]
             ]
           ]
         ]

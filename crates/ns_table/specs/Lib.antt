@@ -1,5 +1,6 @@
 pub mod Positions
 pub mod Words
 pub mod Slots
+pub mod Shown
 pub mod Looked
 pub mod Loaded

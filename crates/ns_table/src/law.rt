@@ -1,5 +1,6 @@
 //! Laws of the words. A law is the contract of a function that does nothing.
 ghost use Rattle.ns_table.specs.Looked.{LookOfWordsIsTheTrees};
+ghost use Rattle.ns_table.specs.Shown.{EnabledIsShown, ShownIsEnabled};
 ghost use Rattle.ns_table.specs.Slots.{SlotsAreExtents};
 ghost use Rattle.ns_table.specs.Words.{WordsArePlaced};
 
@@ -17,4 +18,14 @@ pub fn look_of_words_is_the_trees()
 /// Extent `e` of disk number `i` is in slot 8 `i` + `e`.
 pub fn slots_are_extents()
     ensures { SlotsAreExtents }
+{}
+
+/// Where an enabled namespace is seen, the word of its disk isn't 0.
+pub fn enabled_is_shown()
+    ensures { EnabledIsShown }
+{}
+
+/// Where the word of a disk isn't 0, an enabled namespace is on it.
+pub fn shown_is_enabled()
+    ensures { ShownIsEnabled }
 {}

@@ -37,18 +37,29 @@ pub trait Rows {
 }
 
 /// Words in a list, with their serial. It counts no load.
+#[derive(Drop)]
 pub struct ListedRows<'a> {
-    words: &'a [u64],
-    serial: u32,
+    pub words: &'a [u64],
+    pub serial: u32,
+    pub ghost all: { length words.now ≡ WORDS },
 }
 
-impl<'a> ListedRows<'a> {
-    /// These words, of which there are `WORDS`.
-    pub fn new(words: &'a [u64], serial: u32) -> Self
-        requires { length words.now ≡ WORDS }
-        ensures words { result.words.now ≡ words.now }
-        ensures serial { result.serial ≡ serial }
-    {
-        ListedRows { words, serial }
+impl<'a> Rows for ListedRows<'a> {
+    ghost Behind = { List ℕ × ℕ };
+
+    ghost behind = { λ s. (s.words.now, s.serial) };
+
+    ghost words = { λ b. b.0 };
+
+    ghost published = { λ b. b.1 };
+
+    ghost loads = { λ s. 0 };
+
+    fn word(&mut self, at: u32) -> u64 {
+        self.words[at as usize]
+    }
+
+    fn serial(&mut self) -> u32 {
+        self.serial
     }
 }

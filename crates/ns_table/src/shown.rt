@@ -19,7 +19,9 @@ fn namespace_shows(namespace: &NamespaceRow, disk: u8) -> bool
 fn some_shows(row: &SubsystemRow, disk: u8) -> bool
     ensures { result ≡ subsystem_shows disk row.now }
 {
-    row.namespaces.iter().any(|(_, namespace)| namespace_shows(namespace, disk))
+    row.namespaces
+        .iter()
+        .any(|(_, namespace)| namespace_shows(namespace, disk))
 }
 
 /// Whether an enabled namespace is on a disk, by its number from 0.
