@@ -1,24 +1,19 @@
 -- The look of a configuration's words is the look of the configuration.
-use Rattle.std.proofs.Common.{◌≡◌, ◌≤◌, ◌<◌, ◌⊎◌, ℕ, zero, suc, ◌+◌, ◌^◌, ◌%◌, ◌==◌, not, max, Bool, true, false, if◌then◌else◌, nat_lt, List, length, get_or, Option, Some, None, is_some, refl, sym, ap, subst, ◌∙◌, inl, inr, arith}
+use Rattle.std.proofs.Common.{◌≡◌, ◌≤◌, ◌<◌, ℕ, zero, suc, ◌+◌, ◌^◌, ◌==◌, not, max, Bool, true, false, if◌then◌else◌, nat_lt, List, length, get_or, Option, Some, None, is_some, refl, sym, ap, ◌∙◌, inl, inr, arith}
 use Rattle.std.proofs.lemmas.Bool.{eqb-true}
 use Rattle.std.proofs.lemmas.Option.{slice_get_past}
-use Rattle.std.specs.List.{slice_get}
 use Rattle.std.specs.FinMap as maps
-use Rattle.sqe_cqe.specs.Anas.{ana_number}
-use Rattle.sqe_cqe.specs.Answers.{Answers}
 use Rattle.sqe_cqe.specs.Ready.{ready_in, is_ready_at}
 use Rattle.sqe_cqe.specs.declared.controllers.ControllerRow.{ControllerRow}
 use Rattle.sqe_cqe.specs.declared.rows.Ana.{Ana}
 use Rattle.sqe_cqe.specs.declared.rows.Ana.TheVariants.{Optimized, NonOptimized, Inaccessible, PersistentLoss, Changing}
-use Rattle.sqe_cqe.specs.declared.rows.Offers.{Offers}
-use Rattle.sqe_cqe.specs.declared.rows.Seen.{Seen}
 use Rattle.sqe_cqe.specs.declared.rows.Seen.TheVariants.{NotConfigured}
 use Rattle.configfs_rows.specs.declared.ports.PortRow.{PortRow}
 use Rattle.configfs_tree.specs.Links.{subsystem_row, port_row}
 use Rattle.configfs_tree.proofs.Positions.{port_positions}
 use Rattle.tree_target.specs.Views.{seen_of, space_in, group_in, group_state}
-use Rattle.ns_table.specs.Positions.{at, Ready, Changes, SubsystemStamp, PortStamp, State, Space, space_at, IsNsid, IsGroup, IsController}
-use Rattle.ns_table.specs.Words.{Shape, bit, state_word, words_of, word_for, ArePlaced, space_words}
+use Rattle.ns_table.specs.Positions.{at, Ready, Changes, SubsystemStamp, PortStamp, State, Space, space_at, IsGroup, IsController}
+use Rattle.ns_table.specs.Words.{Shape, bit, state_word, words_of}
 use Rattle.ns_table.specs.Looked.{is_nsid, is_group, is_controller, state_in, stamp_in, seen_in, words_answers, shape_answers, FitsTable, LookOfWordsIsTheTrees}
 use Rattle.ns_table.proofs.Limits.{nsid-cases, group-cases, controller-cases, lt-cases, if-true, if-false}
 use Rattle.ns_table.proofs.Spaces.{seen-again, stamp-again, fine-seen, nothing-outside, found-passes}

@@ -1,5 +1,5 @@
 -- Disks are shown where enabled namespaces are.
-use Rattle.std.proofs.Common.{◌≡◌, ◌≢◌, ◌<◌, ℕ, ◌==◌, ◌&&◌, ◌||◌, Bool, true, false, if◌then◌else◌, List, [], ◌∷◌, map, get_or, Option, Some, None, refl, sym, ap, subst, ◌∙◌, arith}
+use Rattle.std.proofs.Common.{◌≡◌, ℕ, ◌==◌, ◌&&◌, ◌||◌, Bool, true, false, if◌then◌else◌, List, [], ◌∷◌, map, Option, Some, None, refl, sym, ap, ◌∙◌}
 use Rattle.std.proofs.lemmas.Bool.{eqb-true, eq-eqb}
 use Rattle.std.specs.List.{list_any, find, slice_get}
 use Rattle.std.specs.FinMap as maps
@@ -11,7 +11,6 @@ use Rattle.configfs_rows.proofs.Placing.{found_passes}
 use Rattle.configfs_tree.proofs.Kept.{names_same}
 use Rattle.mem_bdev.specs.Blocks.{Blocks}
 use Rattle.sqe_cqe.specs.declared.rows.NsRow.{NsRow}
-use Rattle.sqe_cqe.specs.declared.rows.Seen.{Seen}
 use Rattle.sqe_cqe.specs.declared.rows.Seen.TheVariants.{NotConfigured, Off, On}
 use Rattle.configfs_rows.specs.declared.namespaces.NamespaceRow.{NamespaceRow}
 use Rattle.configfs_rows.specs.declared.subsystems.SubsystemRow.{SubsystemRow}
@@ -20,7 +19,7 @@ use Rattle.configfs_tree.specs.declared.configuration.Configuration.{Configurati
 use Rattle.configfs_tree.specs.Links.{subsystem_row}
 use Rattle.tree_target.specs.Views.{seen_of, space_in, on_disk, on_blocks, row_of}
 use Rattle.ns_table.specs.Positions.{Shown, at}
-use Rattle.ns_table.specs.Words.{Shape, words_of, is_shown, subsystem_shows, shows, is_on, bit}
+use Rattle.ns_table.specs.Words.{Shape, is_shown, subsystem_shows, shows, is_on, bit}
 use Rattle.ns_table.specs.Shown.{EnabledIsShown, ShownIsEnabled, IsEnabledOn}
 use Rattle.ns_table.proofs.Placed.{placed}
 use Rattle.ns_table.proofs.Spaces.{none-some, some-same}

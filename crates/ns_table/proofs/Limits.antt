@@ -1,5 +1,5 @@
 -- What there are words for, as tests and as facts.
-use Rattle.std.proofs.Common.{◌≡◌, ◌≤◌, ◌<◌, ◌⊎◌, ℕ, ◌+◌, ◌&&◌, Bool, true, false, if◌then◌else◌, nat_lt, nat_le, refl, sym, ap, subst, ◌∙◌, inl, inr, arith}
+use Rattle.std.proofs.Common.{◌≡◌, ◌≤◌, ◌<◌, ◌⊎◌, ℕ, ◌&&◌, Bool, true, false, if◌then◌else◌, nat_lt, nat_le, refl, sym, subst, inl, inr, arith}
 use Rattle.std.proofs.lemmas.Bool.{cases_lt}
 use Rattle.ns_table.specs.Positions.{IsNsid, IsGroup, IsController}
 use Rattle.ns_table.specs.Looked.{is_nsid, is_group, is_controller}

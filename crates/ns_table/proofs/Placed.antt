@@ -1,10 +1,9 @@
 -- Each word is the one for its place.
-use Rattle.std.proofs.Common.{◌≡◌, ◌<◌, ℕ, ◌+◌, List, [], ◌∷◌, ◌++◌, length, map, get_or, refl, sym, ap, ◌∙◌, arith}
-use Rattle.std.specs.List.{range_with_len}
+use Rattle.std.proofs.Common.{◌≡◌, ◌<◌, ℕ, ◌+◌, List, [], ◌∷◌, ◌++◌, length, get_or, refl, sym, ap, ◌∙◌, arith}
 use Rattle.std.proofs.lemmas.List.FromFn.{get_or-map-range_with_len, length-map-range_with_len, map-range_with_len_more}
 use Rattle.ns_table.specs.declared.layout.TheConstants.{WORDS}
-use Rattle.ns_table.specs.Positions.{Place, IsWithin, at, place_at}
-use Rattle.ns_table.specs.Words.{Shape, word_for, each_below, words_of, ArePlaced, WordsArePlaced}
+use Rattle.ns_table.specs.Positions.{at, place_at}
+use Rattle.ns_table.specs.Words.{Shape, word_for, each_below, words_of, WordsArePlaced}
 use Rattle.ns_table.proofs.Places.{again, below}
 
 pub each-at : (f : ℕ → ℕ) (n w : ℕ) → w < n → get_or (each_below f n) w 0 ≡ f w

@@ -1,5 +1,5 @@
 -- What stands at an NSID is what its words tell.
-use Rattle.std.proofs.Common.{◌≡◌, ◌≤◌, ◌<◌, ◌⊎◌, ℕ, zero, suc, ◌+◌, ◌*◌, ◌^◌, ◌==◌, ◌&&◌, Bool, true, false, if◌then◌else◌, nat_lt, nat_le, List, [], ◌∷◌, ◌++◌, length, take, drop, get_or, Option, Some, None, refl, sym, ap, subst, ◌∙◌, inl, inr, arith}
+use Rattle.std.proofs.Common.{◌≡◌, ◌≤◌, ◌<◌, ℕ, ◌+◌, ◌*◌, ◌^◌, ◌==◌, Bool, true, false, if◌then◌else◌, nat_lt, nat_le, List, [], ◌∷◌, ◌++◌, length, take, drop, get_or, Option, Some, None, refl, sym, ap, subst, ◌∙◌, arith}
 use Rattle.std.proofs.Math.Nat.{one-le-pow, mul-le-mul_left}
 use Rattle.std.proofs.lemmas.Nat.{le_bytes_8}
 use Rattle.std.proofs.lemmas.Bool.{eqb-true}
@@ -16,12 +16,12 @@ use Rattle.sqe_cqe.specs.declared.rows.Seen.{Seen}
 use Rattle.sqe_cqe.specs.declared.rows.Seen.TheVariants.{NotConfigured, Off, On}
 use Rattle.configfs_rows.specs.declared.namespaces.NamespaceRow.{NamespaceRow}
 use Rattle.configfs_rows.specs.declared.subsystems.SubsystemRow.{SubsystemRow}
-use Rattle.configfs_tree.specs.Links.{subsystem_row, SubsystemPositions}
+use Rattle.configfs_tree.specs.Links.{subsystem_row}
 use Rattle.configfs_tree.proofs.Positions.{subsystem_positions}
 use Rattle.tree_target.specs.Views.{seen_of, space_in, row_of, on_blocks, on_disk}
-use Rattle.ns_table.proofs.Limits.{if-true, if-false, lt-true, le-true, five}
+use Rattle.ns_table.proofs.Limits.{if-true, lt-true, le-true, five}
 use Rattle.ns_table.specs.Positions.{IsNsid}
-use Rattle.ns_table.specs.Words.{Shape, seen_words, space_words}
+use Rattle.ns_table.specs.Words.{Shape, space_words}
 use Rattle.ns_table.specs.Looked.{row_in, may_be_row, row_or_off, seen_in, IsIdentifier, HasIdentifiers, IsDisk, FitsTable}
 
 -- ---- 16 bytes as two words

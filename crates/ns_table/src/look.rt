@@ -197,6 +197,7 @@ fn port_stamp<R: Rows>(rows: &mut R, port: u8) -> u32
 
 /// A look at the words of a configuration. What it answers is a function of them and of their
 /// serial, which `look_of_words_is_the_trees` says is what the configuration answers.
+#[derive(Drop)]
 pub struct RowLook<R> {
     /// The words.
     pub rows: R,

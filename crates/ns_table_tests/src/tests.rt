@@ -107,3 +107,77 @@ fn words_stand_at_their_positions(rt: HostRuntime) -> Result<(), Fail> {
     check_space(&rt, &words, 1, 2048, &[2, 1, 12, 8, 2, 0, 0, 0, 0, 0, 0]);
     Ok(())
 }
+
+// Both looks answer alike for an NSID of a subsystem.
+fn same_space<L: Look, M: Look>(rt: &impl Abort, a: &mut L, b: &mut M, sub: u8, nsid: u32) {
+    assert_eq!(rt; a.ns(sub, nsid), b.ns(sub, nsid), "NSID {nsid} of {sub}");
+    assert_eq!(rt; a.ns_stamp(sub, nsid), b.ns_stamp(sub, nsid));
+    assert_eq!(rt; a.marks(sub, nsid), b.marks(sub, nsid));
+    assert_eq!(rt; a.bars(1, sub, nsid, 1), b.bars(1, sub, nsid, 1));
+}
+
+// Both looks answer alike for a group of a port.
+fn same_group<L: Look, M: Look>(rt: &impl Abort, a: &mut L, b: &mut M, port: u8, group: u32) {
+    assert_eq!(rt;
+        a.ana(port, group),
+        b.ana(port, group),
+        "group {group} of {port}"
+    );
+    assert_eq!(rt; a.group_made(port, group), b.group_made(port, group));
+    assert_eq!(rt;
+        a.group_count(port, 0, group),
+        b.group_count(port, 0, group)
+    );
+    assert_eq!(rt; a.ana_stamp(0, port), b.ana_stamp(0, port));
+}
+
+// Both looks answer alike, within the limits and beside them.
+fn same_looks<L: Look, M: Look>(rt: &impl Abort, a: &mut L, b: &mut M) {
+    for ctrl in 0..40 {
+        assert_eq!(rt; a.ready(ctrl), b.ready(ctrl), "controller {ctrl}");
+    }
+    for nsid in 0..2_050 {
+        for sub in 0..4 {
+            same_space(rt, a, b, sub, nsid);
+        }
+        same_space(rt, a, b, 255, nsid);
+    }
+    for group in 0..131 {
+        for port in 0..10 {
+            same_group(rt, a, b, port, group);
+        }
+    }
+    assert_eq!(rt; a.ana_count(), b.ana_count());
+    assert_eq!(rt; a.serial(), b.serial());
+    assert_eq!(rt; a.offers(), b.offers());
+}
+
+#[test]
+fn the_look_of_words_is_the_look_of_the_tree(rt: HostRuntime) -> Result<(), Fail> {
+    let tree = configured(&rt, rt.alloc());
+    let controllers = Controllers::simple(rt.alloc())?;
+    let disks = disks(rt.alloc())?;
+    let words = opened_words(rt.alloc(), &tree, &controllers, &disks)?;
+    assert_eq!(rt; words.len(), 361_592);
+    let rows = ListedRows {
+        words: &words,
+        serial: 0,
+    };
+    let mut by_words = RowLook { rows };
+    let mut by_tree = TreeLook::new(&tree, &controllers, &disks);
+    same_looks(&rt, &mut by_words, &mut by_tree);
+    Ok(())
+}
+
+#[test]
+fn a_table_is_opened_with_words_slots_and_quotas(rt: HostRuntime) -> Result<(), Fail> {
+    let tree = configured(&rt, rt.alloc());
+    let controllers = Controllers::simple(rt.alloc())?;
+    let disks = Vec::new(rt.alloc());
+    let quotas = [9, 4].to_vec(rt.alloc())?;
+    let opened = opening(rt.alloc(), &tree, &controllers, &disks, quotas)?;
+    assert_eq!(rt; opened.rows.len(), 361_592);
+    assert_eq!(rt; opened.slots.len(), 0);
+    assert_eq!(rt; opened.quotas.as_slice(), [9, 4].as_slice());
+    Ok(())
+}

@@ -1,6 +1,5 @@
-use Rattle.std.proofs.Common.{◌∙◌, ℕ, sym, arith}
-use Rattle.ns_table.specs.Positions.{place_at}
-use Rattle.ns_table.specs.Words.{opened_shape, word_for}
+use Rattle.std.proofs.Common.{◌∙◌, sym, arith}
+use Rattle.ns_table.specs.Words.{opened_shape}
 use Rattle.ns_table.proofs.Placed.{each-none, next-word, whole}
 use Rattle.ns_table.proofs.opening.opened_words.Goals as goal
 
