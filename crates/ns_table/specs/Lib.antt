@@ -2,5 +2,6 @@ pub mod Positions
 pub mod Words
 pub mod Slots
 pub mod Shown
+pub mod Follows
 pub mod Looked
 pub mod Loaded

@@ -1,4 +1,5 @@
 //! Laws of the words. A law is the contract of a function that does nothing.
+ghost use Rattle.ns_table.specs.Follows.{WordsFollowSettings};
 ghost use Rattle.ns_table.specs.Looked.{LookOfWordsIsTheTrees};
 ghost use Rattle.ns_table.specs.Shown.{EnabledIsShown, ShownIsEnabled};
 ghost use Rattle.ns_table.specs.Slots.{SlotsAreExtents};
@@ -28,4 +29,10 @@ pub fn enabled_is_shown()
 /// Where the word of a disk isn't 0, an enabled namespace is on it.
 pub fn shown_is_enabled()
     ensures { ShownIsEnabled }
+{}
+
+/// The words follow the settings of the tree, the controllers, the stamps and the sizes of disks
+/// alone: a write to a disk, the end of a drain and a poll leave them.
+pub fn words_follow_settings()
+    ensures { WordsFollowSettings }
 {}
