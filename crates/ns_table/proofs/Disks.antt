@@ -47,7 +47,7 @@ found-any : {X : Type 0} (q p : X → Bool) (xs : List X) (x : X) → find q xs 
 found-any q p [] x e is = absurd (none-some x e)
 found-any q p (y ∷ ys) x e is = found-on q p y x ys (q y) e is (λ f. found-any q p ys x f is)
 
-any-map : {K X : Type 0} (p : X → Bool) (es : List (K × X)) → list_any (λ (e : K × X). p e.1) es ≡ list_any p (map (λ (e : K × X). e.1) es)
+pub any-map : {K X : Type 0} (p : X → Bool) (es : List (K × X)) → list_any (λ (e : K × X). p e.1) es ≡ list_any p (map (λ (e : K × X). e.1) es)
 any-map p [] = refl
 any-map p (e ∷ es) = ap (λ b. p e.1 || b) (any-map p es)
 
@@ -101,7 +101,7 @@ bit-true : (b : Bool) → (bit b ≡ 0 → ⊥) → b ≡ true
 bit-true true h = refl
 bit-true false h = absurd (h refl)
 
-on-that : (o : Option ℕ) (disk : ℕ) → is_on disk o ≡ true → o ≡ Some disk
+pub on-that : (o : Option ℕ) (disk : ℕ) → is_on disk o ≡ true → o ≡ Some disk
 on-that None disk is = absurd (no-truth is)
 on-that (Some i) disk is = ap (λ (k : ℕ). Some k) (eqb-true i disk is)
 
@@ -121,7 +121,7 @@ space-enabled x disk sub s there any =
       on = on-that w.row.disk disk parts.1;
     }
 
-found-shown : (x : Shape) (disk : ℕ) → is_shown x.tree disk ≡ true → IsEnabledOn x disk
+pub found-shown : (x : Shape) (disk : ℕ) → is_shown x.tree disk ≡ true → IsEnabledOn x disk
 unfolding is_shown
 found-shown x disk any =
     let w = first_passing (subsystem_shows disk) (maps.values x.tree.settings.subsystems) any in

@@ -6,3 +6,6 @@ pub mod Follows
 pub mod Limits
 pub mod Spaces
 pub mod Answered
+pub mod ByPosition
+pub mod PortsByPosition
+pub mod Changing

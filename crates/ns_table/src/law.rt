@@ -1,4 +1,5 @@
 //! Laws of the words. A law is the contract of a function that does nothing.
+ghost use Rattle.ns_table.specs.Changed.{WordsChangeWhereTold};
 ghost use Rattle.ns_table.specs.Follows.{WordsFollowSettings};
 ghost use Rattle.ns_table.specs.Looked.{LookOfWordsIsTheTrees};
 ghost use Rattle.ns_table.specs.Shown.{EnabledIsShown, ShownIsEnabled};
@@ -35,4 +36,10 @@ pub fn shown_is_enabled()
 /// alone: a write to a disk, the end of a drain and a poll leave them.
 pub fn words_follow_settings()
     ensures { WordsFollowSettings }
+{}
+
+/// An edit changes no word but those that its change tells of: the row that it touched, the stamps
+/// of what it names, the count of ANA changes, and the disk of a namespace that turned.
+pub fn words_change_where_told()
+    ensures { WordsChangeWhereTold }
 {}
