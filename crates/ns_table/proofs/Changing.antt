@@ -81,7 +81,7 @@ row-shows u n disk row (Some b) y e is h =
     any-map (shows disk) (maps.entries row.namespaces)
     ∙ found_passes nat_cmp (shows disk) n (maps.entries row.namespaces) b (sym (maps.get-entries row.namespaces n) ∙ e) (ap (shows disk) same ∙ h)
 
-placed-on-shows : (u : Configuration) (sub : List ℕ) (n disk : ℕ) (o : Option SubsystemRow) (y : Placed) → maps.get u.settings.subsystems sub ≡ o → placed_in n o ≡ Some y → shows disk y.row ≡ true → is_shown u disk ≡ true
+pub placed-on-shows : (u : Configuration) (sub : List ℕ) (n disk : ℕ) (o : Option SubsystemRow) (y : Placed) → maps.get u.settings.subsystems sub ≡ o → placed_in n o ≡ Some y → shows disk y.row ≡ true → is_shown u disk ≡ true
 unfolding is_shown
 placed-on-shows u sub n disk None y e is h = absurd (none-some y is)
 placed-on-shows u sub n disk (Some row) y e is h =

@@ -9,3 +9,5 @@ pub mod Answered
 pub mod ByPosition
 pub mod PortsByPosition
 pub mod Changing
+pub mod Patched
+pub mod PatchParts

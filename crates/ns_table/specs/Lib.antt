@@ -4,5 +4,6 @@ pub mod Slots
 pub mod Shown
 pub mod Follows
 pub mod Changed
+pub mod Patches
 pub mod Looked
 pub mod Loaded

@@ -11,5 +11,6 @@ pub mod law;
 pub mod layout;
 pub mod look;
 pub mod opening;
+pub mod patches;
 pub mod rows;
 pub mod shown;

@@ -17,7 +17,7 @@ use std::alloc::{AllocError, Global};
 use target_table::opening::Opening;
 use tree_target::TreeLook;
 
-fn bit_of(b: bool) -> u64
+pub(crate) fn bit_of(b: bool) -> u64
     ensures { result ≡ bit b }
 {
     if b { 1 } else { 0 }
@@ -60,7 +60,7 @@ fn row_word(row: &NsRow, part: u32) -> u64
 }
 
 // A part of what stands at an NSID.
-fn space_word(seen: &Seen, part: u32) -> u64
+pub(crate) fn space_word(seen: &Seen, part: u32) -> u64
     requires { part < 11 }
     ensures { result ≡ slice_index (space_words seen.now 0) part }
 {
@@ -72,7 +72,7 @@ fn space_word(seen: &Seen, part: u32) -> u64
 }
 
 // The word of a group at the port at a position.
-fn group_word(look: &mut TreeLook<'_>, port: u8, group: u32) -> u64
+pub(crate) fn group_word(look: &mut TreeLook<'_>, port: u8, group: u32) -> u64
     ensures { result ≡ state_word (group_in group (port_row look.old.tree.now port)) }
 {
     if !look.group_made(port, group) {

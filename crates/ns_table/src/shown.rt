@@ -6,7 +6,7 @@ use configfs_rows::{NamespaceRow, SubsystemRow};
 use configfs_tree::Tree;
 
 // Whether a namespace is enabled on the disk.
-fn namespace_shows(namespace: &NamespaceRow, disk: u8) -> bool
+pub(crate) fn namespace_shows(namespace: &NamespaceRow, disk: u8) -> bool
     ensures { result ≡ shows disk namespace.now }
 {
     match namespace.disk {
