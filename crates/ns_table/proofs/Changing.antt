@@ -39,7 +39,7 @@ both : (a b : Bool) → (a && b) ≡ true → (a ≡ true) × (b ≡ true)
 both true b is = (refl, is)
 both false b is = absurd (no-truth is)
 
-pair-that : (o : Option (ℕ × ℕ)) (s n : ℕ) → is_pair s n o ≡ true → o ≡ Some (s, n)
+pub pair-that : (o : Option (ℕ × ℕ)) (s n : ℕ) → is_pair s n o ≡ true → o ≡ Some (s, n)
 pair-that None s n is = absurd (no-truth is)
 pair-that (Some x) s n is =
     let h = both (x.0 == s) (x.1 == n) is in
@@ -47,7 +47,7 @@ pair-that (Some x) s n is =
     let b = eqb-true x.1 n h.1 in
     λ i. Some (a i, b i)
 
-stamped : (b : Bool) (serial old : ℕ) (P : Type 0) → (b ≡ true → P) → ((if b then serial else old) ≡ old) ⊎ P
+pub stamped : (b : Bool) (serial old : ℕ) (P : Type 0) → (b ≡ true → P) → ((if b then serial else old) ≡ old) ⊎ P
 stamped true serial old P told = inr (told refl)
 stamped false serial old P told = inl refl
 

@@ -11,3 +11,4 @@ pub mod PortsByPosition
 pub mod Changing
 pub mod Patched
 pub mod PatchParts
+pub mod Whole

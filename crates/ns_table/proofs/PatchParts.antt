@@ -20,7 +20,7 @@ use Rattle.ns_table.specs.Patches.{placed_word, words_at, touched_places, shown_
 use Rattle.ns_table.proofs.Spaces.{stamp-again}
 
 -- parts but for the stamp don't depend on it
-part-same : (seen : Seen) (a b k : ℕ) → k < 10 → get_or (space_words seen a) k 0 ≡ get_or (space_words seen b) k 0
+pub part-same : (seen : Seen) (a b k : ℕ) → k < 10 → get_or (space_words seen a) k 0 ≡ get_or (space_words seen b) k 0
 part-same NotConfigured a b zero h = refl
 part-same NotConfigured a b (suc zero) h = refl
 part-same NotConfigured a b (suc (suc zero)) h = refl

@@ -1,15 +1,19 @@
 -- The words that a change is published with.
-use Rattle.std.specs.Prelude.{◌≡◌, ◌<◌, ℕ, ◌+◌, List, [], ◌∷◌, ◌++◌, map, Option, Some, None}
-use Rattle.std.specs.List.{range_with_len}
+use Rattle.std.specs.Prelude.{◌≡◌, ◌⊎◌, ◌<◌, ℕ, ◌+◌, List, [], ◌∷◌, ◌++◌, map, Option, Some, None}
+use Rattle.std.specs.List.{Contains, range_with_len}
+use Rattle.mem_bdev.specs.Blocks.{Blocks}
+use Rattle.sqe_cqe.specs.declared.controllers.ControllerRow.{ControllerRow}
+use Rattle.configfs_tree.specs.Standing.{IsStanding}
+use Rattle.configfs_tree.specs.Told.{Tells}
 use Rattle.configfs_tree.specs.declared.configuration.Configuration.{Configuration}
 use Rattle.configfs_tree.specs.declared.edits.Change.{Change}
 use Rattle.configfs_tree.specs.declared.edits.Touched.{Touched}
 use Rattle.configfs_tree.specs.declared.edits.Touched.TheVariants as touches
 use Rattle.configfs_tree.specs.Links.{subsystem_row}
 use Rattle.tree_target.specs.Views.{space_in}
-use Rattle.ns_table.specs.Positions.{Place, Shown, Ready, Changes, SubsystemStamp, PortStamp, State, Space, at, IsNsid, IsGroup, IsController}
-use Rattle.ns_table.specs.Words.{Shape, word_for}
-use Rattle.ns_table.specs.Changed.{disk_in}
+use Rattle.ns_table.specs.Positions.{Place, Shown, Ready, Changes, SubsystemStamp, PortStamp, State, Space, at, IsWithin, IsNsid, IsGroup, IsController}
+use Rattle.ns_table.specs.Words.{Stamps, Shape, word_for}
+use Rattle.ns_table.specs.Changed.{disk_in, shape_before, stamps_after, Keeps}
 
 -- a word with its position
 abbrev pub placed_word : Shape → Place → ℕ × ℕ
@@ -87,3 +91,11 @@ port_words x (Some port) serial = (at (PortStamp port), serial) ∷ placed_word 
 abbrev pub subsystem_words : Shape → Option ℕ → ℕ → List (ℕ × ℕ)
 subsystem_words x None serial = []
 subsystem_words x (Some sub) serial = (at (SubsystemStamp sub), serial) ∷ placed_word x Changes ∷ []
+
+-- a word that isn't as before has its place in the patch
+abbrev pub PatchesAreWhole : Type 0
+PatchesAreWhole = (t u : Configuration) (c : Change) (controllers : List ControllerRow)
+    (blocks : List Blocks) (stamps : Stamps) (serial : ℕ) → IsStanding t → IsStanding u
+    → Tells t u c → Keeps t u → (p : Place) → IsWithin p
+    → (word_for (shape_before u controllers blocks (stamps_after serial c stamps)) p
+    ≡ word_for (shape_before t controllers blocks stamps) p) ⊎ Contains (told_places u c) p

@@ -2,6 +2,7 @@
 ghost use Rattle.ns_table.specs.Changed.{WordsChangeWhereTold};
 ghost use Rattle.ns_table.specs.Follows.{WordsFollowSettings};
 ghost use Rattle.ns_table.specs.Looked.{LookOfWordsIsTheTrees};
+ghost use Rattle.ns_table.specs.Patches.{PatchesAreWhole};
 ghost use Rattle.ns_table.specs.Shown.{EnabledIsShown, ShownIsEnabled};
 ghost use Rattle.ns_table.specs.Slots.{SlotsAreExtents};
 ghost use Rattle.ns_table.specs.Words.{WordsArePlaced};
@@ -42,4 +43,9 @@ pub fn words_follow_settings()
 /// of what it names, the count of ANA changes, and the disk of a namespace that turned.
 pub fn words_change_where_told()
     ensures { WordsChangeWhereTold }
+{}
+
+/// A word that an edit changes has its place among those that its patch has.
+pub fn patches_are_whole()
+    ensures { PatchesAreWhole }
 {}
