@@ -1,0 +1,53 @@
+-- A saved configuration that is loaded again.
+use Rattle.std.specs.Prelude.{◌≡◌, ◌<◌, ℕ, List, length, map as each, Some, Ok}
+use Rattle.std.specs.List.{All}
+use Rattle.std.specs.FinMap as map
+use Rattle.configfs_rows.specs.declared.namespaces.NamespaceRow.{NamespaceRow}
+use Rattle.configfs_rows.specs.declared.subsystems.SubsystemRow.{SubsystemRow}
+use Rattle.configfs_rows.specs.declared.ports.PortRow.{PortRow}
+use Rattle.configfs_rows.specs.Holders.{paths_of}
+use Rattle.configfs_tree.specs.Start.{line_path}
+use Rattle.configfs_tree.specs.declared.configuration.Configuration.{Configuration}
+use Rattle.link_rules.specs.declared.edits.Edit.{Edit}
+use Rattle.mem_bdev.specs.declared.disk.DiskLine.{DiskLine}
+use Rattle.nvmetcli_json.specs.Loading.{edits_in}
+use Rattle.nvmetcli_json.specs.Saving.{tree_data, saved}
+use Rattle.tree_target.specs.Loads.{LoadedTree, loaded}
+
+-- ---- what the types of a tree's rows say, and its finite maps don't
+-- 16 bytes, as a UUID or an NGUID has
+pub record IsIdentifier (bytes : List ℕ) : Type 0 where
+  pub long : length bytes ≡ 16
+  pub small : All (λ b. b < 256) bytes
+
+pub record HasIdentifiers (n : NamespaceRow) : Type 0 where
+  pub uuid : IsIdentifier n.uuid
+  pub nguid : IsIdentifier n.nguid
+
+-- each namespace has its identifiers, and the number of a port has 16 bits
+pub record IsTyped (t : Configuration) : Type 0 where
+  pub identifiers : (sub : List ℕ) (s : SubsystemRow) (nsid : ℕ) (n : NamespaceRow)
+      → map.get t.settings.subsystems sub ≡ Some s → map.get s.namespaces nsid ≡ Some n
+      → HasIdentifiers n
+  pub short_ids : (id : ℕ) (p : PortRow) → map.get t.settings.ports id ≡ Some p → id < 65536
+
+-- the disks of the tree are those of the plan, in its order
+abbrev pub HasDisksOf : List DiskLine → Configuration → Type 0
+HasDisksOf lines t = paths_of t.disks ≡ each line_path lines
+
+-- ---- rows but for their positions
+abbrev pub unplaced_subsystem : SubsystemRow → SubsystemRow
+unplaced_subsystem s = record s { at = 0 }
+
+abbrev pub unplaced_port : PortRow → PortRow
+unplaced_port p = record p { at = 0 }
+
+-- ---- what is saved of a tree is read to edits, each of them is accepted one after another from
+-- the empty tree over the plan's disks on, and of the tree that they make the same is saved
+pub record Reloads (lines : List DiskLine) (t : Configuration) : Type 0 where
+  pub edits : List Edit
+  pub read : edits_in (tree_data t) ≡ Ok edits
+  pub tree : Configuration
+  pub made : loaded lines edits ≡ LoadedTree tree
+  pub same_data : tree_data tree ≡ tree_data t
+  pub same_text : saved tree ≡ saved t
