@@ -1,19 +1,13 @@
 -- Entries that are alike but for one part of their rows: they have the same keys in the same order,
 -- and what is shown of them without that part is the same.
-use Rattle.std.proofs.Common.{◌≡◌, ℕ, Bool, ◌&&◌, T, List, [], ◌∷◌, ◌++◌, map as each, length, refl, sym, ap, subst, ◌∙◌, suc}
-use Rattle.std.specs.Ordering.{is_lt}
+use Rattle.std.proofs.Common.{◌≡◌, ℕ, Bool, ◌&&◌, T, List, [], ◌∷◌, ◌++◌, map as each, length, refl, sym, ap, subst, ◌∙◌, true, false, cond, Option, Some}
+use Rattle.std.proofs.lemmas.List.{map-append, length-map}
+use Rattle.std.specs.Option.{option_map}
+use Rattle.std.specs.Ordering.{is_lt, eq_by_cmp}
 use Rattle.std.specs.declared.cmp.Ordering.{Ordering}
-use Rattle.std.specs.FinMap.{is_sorted}
+use Rattle.std.specs.FinMap as map
+use Rattle.std.specs.FinMap.{FinMap, find, is_sorted}
 use Rattle.std.specs.FinMap.Entries.{below_all}
-
-each-append : {A B : Type 0} (f : A → B) (xs ys : List A) → each f (xs ++ ys) ≡ each f xs
-    ++ each f ys
-each-append f [] ys = refl
-each-append f (x ∷ xs) ys = ap (λ zs. f x ∷ zs) (each-append f xs ys)
-
-length-each : {A B : Type 0} (f : A → B) (xs : List A) → length (each f xs) ≡ length xs
-length-each f [] = refl
-length-each f (x ∷ xs) = ap (λ n. suc n) (length-each f xs)
 
 module _ {K X : Type 0} (R : K → K → Ordering) (plain : X → X) where
   abbrev pub plain_entry : K × X → K × X
@@ -46,14 +40,29 @@ module _ {K X : Type 0} (R : K → K → Ordering) (plain : X → X) where
       ∙ sorted_plain fs)) h
 
   pub length_alike : (es fs : List (K × X)) → Alike es fs → length es ≡ length fs
-  length_alike es fs is = sym (length-each plain_entry es) ∙ (ap length is
-      ∙ length-each plain_entry fs)
+  length_alike es fs is = sym (length-map es plain_entry) ∙ (ap length is
+      ∙ length-map fs plain_entry)
 
   pub append_alike : (es fs gs hs : List (K × X)) → Alike es fs → Alike gs hs
       → Alike (es ++ gs) (fs ++ hs)
-  append_alike es fs gs hs a b = each-append plain_entry es gs ∙ (ap (λ xs. xs
+  append_alike es fs gs hs a b = map-append plain_entry es gs ∙ (ap (λ xs. xs
       ++ each plain_entry gs) a ∙ (ap (λ xs. each plain_entry fs ++ xs) b
-      ∙ sym (each-append plain_entry fs hs)))
+      ∙ sym (map-append plain_entry fs hs)))
+
+  found_plain : (q : K) (es : List (K × X)) → find R q (each plain_entry es)
+      ≡ option_map plain (find R q es)
+  found_plain q [] = refl
+  found_plain q (e ∷ es) = at (eq_by_cmp R q e.0) _ _ (found_plain q es) where
+    at : (b : Bool) (found : Option X) (rest : Option X) → rest ≡ option_map plain found
+        → cond b (Some (plain e.1)) rest ≡ option_map plain (cond b (Some e.1) found)
+    at true found rest is = refl
+    at false found rest is = is
+
+  pub get_alike : (m n : FinMap R X) → Alike (map.entries m) (map.entries n) → (q : K)
+      → option_map plain (map.get m q) ≡ option_map plain (map.get n q)
+  get_alike m n is q = ap (option_map plain) (map.get-entries m q)
+      ∙ (sym (found_plain q (map.entries m)) ∙ (ap (find R q) is
+      ∙ (found_plain q (map.entries n) ∙ ap (option_map plain) (sym (map.get-entries n q)))))
 
   module _ {Y : Type 0} (shown : X → Y) (same : (x : X) → shown (plain x) ≡ shown x) where
     shown_plain : (es : List (K × X)) → each shown (each (λ (e : K × X). e.1) (each plain_entry es))

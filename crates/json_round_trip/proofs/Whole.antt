@@ -39,7 +39,7 @@ use Rattle.nvmetcli_json.proofs.Standing.{standing_reads}
 use Rattle.tree_target.specs.Loads.{Loaded, RefusedEdit, LoadedTree, load_on, load_from, loaded}
 use Rattle.json_round_trip.specs.Reloads.{unplaced_subsystem, unplaced_port, IsTyped, HasDisksOf, Reloads}
 use Rattle.json_round_trip.proofs.Steps.{Hosts, Rows, Ports, tree_of, Goes, goes_then}
-use Rattle.json_round_trip.proofs.Alike.{Alike, keys_alike, shown_alike}
+use Rattle.json_round_trip.proofs.Alike.{Alike, keys_alike, get_alike, shown_alike}
 use Rattle.json_round_trip.proofs.Counted.{few_places}
 use Rattle.json_round_trip.proofs.Growing.{Grows, RowOf}
 use Rattle.json_round_trip.proofs.Made.{subsystems_made, no_entries}
@@ -178,6 +178,13 @@ module _ (lines : List DiskLine) (t : Configuration) (stands : IsStanding t) (ty
         tree = u;
         made = load_all (tree_written t) 1 (empty_tree lines) u
             (ap (all_edited (empty_tree lines)) (sym (append-nil (tree_written t))) ∙ goes []);
+        same_tree = record {
+          hosts = refl;
+          subsystems = get_alike name_order unplaced_subsystem subs.m' t.settings.subsystems
+              subs.alike;
+          ports = get_alike nat_cmp unplaced_port ports.ports' t.settings.ports ports.alike;
+          paths = subs.grows.paths;
+        };
         same_data = same;
         same_text = ap compact_text same;
       }

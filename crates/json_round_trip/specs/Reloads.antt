@@ -1,5 +1,5 @@
 -- A saved configuration that is loaded again.
-use Rattle.std.specs.Prelude.{◌≡◌, ◌<◌, ℕ, List, length, map as each, Some, Ok}
+use Rattle.std.specs.Prelude.{◌≡◌, ◌<◌, ℕ, List, length, map as each, option_map, Some, Ok}
 use Rattle.std.specs.List.{All}
 use Rattle.std.specs.FinMap as map
 use Rattle.configfs_rows.specs.declared.namespaces.NamespaceRow.{NamespaceRow}
@@ -42,12 +42,25 @@ unplaced_subsystem s = record s { at = 0 }
 abbrev pub unplaced_port : PortRow → PortRow
 unplaced_port p = record p { at = 0 }
 
+-- two trees are one but for the positions of their rows, who holds their disks, and what is counted:
+-- so a namespace that was draining may be off
+pub record IsSameTree (t u : Configuration) : Type 0 where
+  pub hosts : u.settings.hosts ≡ t.settings.hosts
+  pub subsystems : (sub : List ℕ)
+      → option_map unplaced_subsystem (map.get u.settings.subsystems sub)
+      ≡ option_map unplaced_subsystem (map.get t.settings.subsystems sub)
+  pub ports : (id : ℕ) → option_map unplaced_port (map.get u.settings.ports id)
+      ≡ option_map unplaced_port (map.get t.settings.ports id)
+  pub paths : paths_of u.disks ≡ paths_of t.disks
+
 -- ---- what is saved of a tree is read to edits, each of them is accepted one after another from
--- the empty tree over the plan's disks on, and of the tree that they make the same is saved
+-- the empty tree over the plan's disks on, and the tree that they make is the same, of which the
+-- same is saved
 pub record Reloads (lines : List DiskLine) (t : Configuration) : Type 0 where
   pub edits : List Edit
   pub read : edits_in (tree_data t) ≡ Ok edits
   pub tree : Configuration
   pub made : loaded lines edits ≡ LoadedTree tree
+  pub same_tree : IsSameTree t tree
   pub same_data : tree_data tree ≡ tree_data t
   pub same_text : saved tree ≡ saved t
