@@ -1,8 +1,13 @@
 -- The namespaces of a subsystem are made again one after another, in the order of their NSIDs.
-use Rattle.std.proofs.Common.{◌≡◌, ◌≤◌, inl, ℕ, Bool, true, false, ◌&&◌, T, List, [], ◌∷◌, ◌++◌, Option, Some, None, refl, sym, ap, subst, ◌∙◌, append_assoc}
+use Rattle.std.proofs.Common.{◌≡◌, ◌≤◌, inl, ℕ, Bool, true, false, ◌&&◌, T, List, [], ◌∷◌, ◌++◌, map as each, cond, Option, Some, None, refl, sym, ap, subst, ◌∙◌, append_assoc}
 use Rattle.std.proofs.lemmas.List.{append-nil}
 use Rattle.std.specs.Fmt.{decimal}
-use Rattle.std.specs.Ordering.{nat_cmp}
+use mathlib.Core.Logic.{⊎_elim}
+use Rattle.std.proofs.lemmas.Bool.{cases_Bool}
+use Rattle.std.proofs.lemmas.List.Elements.{All-map, recursion_from_All}
+use Rattle.std.specs.List.{All, AllByRecursion}
+use Rattle.std.specs.declared.cmp.Ordering.{Ordering}
+use Rattle.std.specs.Ordering.{nat_cmp, eq_by_cmp}
 use Rattle.std.specs.Cmp.{nat_cmp_total}
 use Rattle.std.specs.FinMap as map
 use Rattle.std.specs.FinMap.{FinMap, find, put, is_sorted}
@@ -14,13 +19,14 @@ use Rattle.configfs_rows.specs.declared.disks.DiskRow.{DiskRow}
 use Rattle.configfs_rows.specs.declared.namespaces.NamespaceRow.{NamespaceRow}
 use Rattle.configfs_rows.specs.declared.subsystems.SubsystemRow.{SubsystemRow}
 use Rattle.configfs_rows.proofs.Decimals.{group_names_again}
+use Rattle.configfs_rows.proofs.Gets.{some_same, none_some}
 use Rattle.configfs_tree.specs.Sound.{is_kept_path}
 use Rattle.configfs_tree.specs.Standing.{IsStanding}
 use Rattle.configfs_tree.specs.declared.configuration.Configuration.{Configuration}
 use Rattle.nvmetcli_json.specs.Written.{flat, entry_written, namespace_written}
 use Rattle.nvmetcli_json.proofs.Shown.{right_true}
 use Rattle.nvmetcli_json.proofs.Sorted.{put_last, find_none, find_here}
-use Rattle.json_round_trip.specs.Reloads.{IsIdentifier, IsTyped}
+use Rattle.json_round_trip.specs.Reloads.{IsIdentifier, HasIdentifiers, HasAllIdentifiers, IsTyped}
 use Rattle.json_round_trip.proofs.Steps.{Hosts, Rows, Ports, Spaces, Goes, goes_nowhere, goes_then}
 use Rattle.json_round_trip.proofs.Spaces.{with_sub, with_space, sub_found, sub_put, next, disks_after, is_good_path, SpaceReads, SpaceReady, space_made}
 use Rattle.json_round_trip.proofs.Growing.{Grows, RowOf, is_idle, can_enable, grown}
@@ -32,7 +38,30 @@ good_path (Some path) is = right_true (is_text path) (is_path path) is
 reads_again : (bytes : List ℕ) → IsIdentifier bytes → parsed (hyphenated_text lower bytes) ≡ Some bytes
 reads_again bytes is = sym (parses_hyphenated lower bytes (inl refl) is.long is.small)
 
--- one that came before all others in a list of sorted entries
+-- what all rows of a map have, one that is found has
+found_has : {K X : Type 0} (R : K → K → Ordering) (P : X → Type 0) (q : K) (es : List (K × X)) (x : X)
+    → AllByRecursion P (each (λ (e : K × X). e.1) es) → find R q es ≡ Some x → P x
+found_has R P q [] x all is = absurd (none_some x is)
+found_has R P q (e ∷ es) x all is = ⊎_elim
+    (λ (hit : eq_by_cmp R q e.0 ≡ true). subst P (some_same e.1 x
+    (sym (ap (λ (b : Bool). cond b (Some e.1) (find R q es)) hit) ∙ is)) all.0)
+    (λ (miss : eq_by_cmp R q e.0 ≡ false). found_has R P q es x all.1
+    (sym (ap (λ (b : Bool). cond b (Some e.1) (find R q es)) miss) ∙ is))
+    (cases_Bool (eq_by_cmp R q e.0))
+
+pub value_has : {K X : Type 0} {R : K → K → Ordering} (P : X → Type 0) (m : FinMap R X)
+    → All P (map.values m) → (q : K) (x : X) → map.get m q ≡ Some x → P x
+value_has {R = R} P m all q x is = found_has R P q (map.entries m) x
+    (recursion_from_All P (map.values m) all) (sym (map.get-entries m q) ∙ is)
+
+identified : (t : Configuration) → IsTyped t → (sub : List ℕ) (s : SubsystemRow) (nsid : ℕ)
+    (n : NamespaceRow) → map.get t.settings.subsystems sub ≡ Some s
+    → map.get s.namespaces nsid ≡ Some n → HasIdentifiers n
+identified t typed sub s nsid n found space = value_has HasIdentifiers s.namespaces
+    (All-map HasIdentifiers (λ (e : ℕ × NamespaceRow). e.1) (map.entries s.namespaces)
+    (value_has HasAllIdentifiers t.settings.subsystems typed.identifiers sub s found))
+    nsid n space
+
 module _ (t : Configuration) (stands : IsStanding t) (typed : IsTyped t) (hosts : Hosts) (m : Rows)
     (ports : Ports) where
   space_ready : (s : SubsystemRow) (nsid : ℕ) (n : NamespaceRow) (disks : List DiskRow)
@@ -40,7 +69,7 @@ module _ (t : Configuration) (stands : IsStanding t) (typed : IsTyped t) (hosts 
       → RowOf t s.nqn nsid n → SpaceReady s nsid disks n
   space_ready s nsid n disks g new of =
       let row = (stands.sound.subsystems s.nqn of.s of.found).namespaces nsid n of.space in
-      let ids = typed.identifiers s.nqn of.s nsid n of.found of.space in
+      let ids = identified t typed s.nqn of.s nsid n of.found of.space in
       let here_is = sub_found hosts m ports s in
       record {
         low = row.nsid_low;

@@ -42,6 +42,7 @@ use Rattle.json_round_trip.proofs.Steps.{Hosts, Rows, Ports, tree_of, Goes, goes
 use Rattle.json_round_trip.proofs.Alike.{Alike, keys_alike, get_alike, shown_alike}
 use Rattle.json_round_trip.proofs.Counted.{few_places}
 use Rattle.json_round_trip.proofs.Growing.{Grows, RowOf}
+use Rattle.json_round_trip.proofs.Listed.{value_has}
 use Rattle.json_round_trip.proofs.Made.{subsystems_made, no_entries}
 use Rattle.json_round_trip.proofs.PortsMade.{ports_made}
 
@@ -103,8 +104,7 @@ module _ (lines : List DiskLine) (t : Configuration) (stands : IsStanding t) (ty
     (disks : HasDisksOf lines t) where
   short_ids : list_all has_short_id (map.values t.settings.ports) ≡ true
   short_ids = all_values nat_cmp_total has_short_id t.settings.ports (λ id p is. lt-ltb p.id 65536
-      (subst (λ (n : ℕ). n < 65536) (sym (stands.placed.ports.own_key id p is))
-      (typed.short_ids id p is)))
+      (value_has (λ (q : PortRow). q.id < 65536) t.settings.ports typed.short_ids id p is))
 
   few_subsystems : map.len t.settings.subsystems ≤ MAX_SUBSYSTEMS
   few_subsystems = few_places nat_list_cmp_total (λ (s : SubsystemRow). s.nqn)

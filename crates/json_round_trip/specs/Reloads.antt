@@ -24,12 +24,14 @@ pub record HasIdentifiers (n : NamespaceRow) : Type 0 where
   pub uuid : IsIdentifier n.uuid
   pub nguid : IsIdentifier n.nguid
 
+-- so has each namespace of a subsystem
+abbrev pub HasAllIdentifiers : SubsystemRow → Type 0
+HasAllIdentifiers s = All (λ (e : ℕ × NamespaceRow). HasIdentifiers e.1) (map.entries s.namespaces)
+
 -- each namespace has its identifiers, and the number of a port has 16 bits
 pub record IsTyped (t : Configuration) : Type 0 where
-  pub identifiers : (sub : List ℕ) (s : SubsystemRow) (nsid : ℕ) (n : NamespaceRow)
-      → map.get t.settings.subsystems sub ≡ Some s → map.get s.namespaces nsid ≡ Some n
-      → HasIdentifiers n
-  pub short_ids : (id : ℕ) (p : PortRow) → map.get t.settings.ports id ≡ Some p → id < 65536
+  pub identifiers : All HasAllIdentifiers (map.values t.settings.subsystems)
+  pub short_ids : All (λ (p : PortRow). p.id < 65536) (map.values t.settings.ports)
 
 -- the disks of the tree are those of the plan, in its order
 abbrev pub HasDisksOf : List DiskLine → Configuration → Type 0

@@ -2,5 +2,7 @@
 #![tactic(auto)]
 
 mod laws;
+mod typed;
 
-pub use laws::saved_tree_loads_again;
+pub use laws::{saved_configuration_loads_again, saved_tree_loads_again};
+pub use typed::certify_types;
