@@ -1,6 +1,6 @@
 -- Entries that are alike but for one part of their rows: they have the same keys in the same order,
 -- and what is shown of them without that part is the same.
-use Rattle.std.proofs.Common.{◌≡◌, ℕ, Bool, ◌&&◌, T, List, [], ◌∷◌, ◌++◌, map as each, length, refl, sym, ap, subst, ◌∙◌, true, false, cond, Option, Some}
+use Rattle.std.proofs.Common.{◌≡◌, Bool, ◌&&◌, T, List, [], ◌∷◌, ◌++◌, map as each, length, refl, sym, ap, subst, ◌∙◌, true, false, cond, Option, Some}
 use Rattle.std.proofs.lemmas.List.{map-append, length-map}
 use Rattle.std.specs.Option.{option_map}
 use Rattle.std.specs.Ordering.{is_lt, eq_by_cmp}

@@ -1,5 +1,5 @@
 -- As many rows stand as there are positions, at most.
-use Rattle.std.proofs.Common.{◌≡◌, ◌≤◌, ◌<◌, ◌+◌, ◌&&◌, ◌||◌, ◌==◌, ℕ, Bool, true, false, T, List, [], ◌∷◌, ◌++◌, map as each, length, Some, refl, sym, ap, subst, ◌∙◌, append_assoc, nat_eq, arith}
+use Rattle.std.proofs.Common.{◌≡◌, ◌≤◌, ◌<◌, ◌&&◌, ◌||◌, ℕ, Bool, true, false, T, List, [], ◌∷◌, ◌++◌, map as each, length, Some, refl, sym, ap, subst, ◌∙◌, append_assoc, nat_eq, arith}
 use mathlib.Core.Logic.{⊎_elim}
 use Rattle.std.specs.List.{AllByRecursion, IsDistinct, list_any}
 use Rattle.std.specs.Ordering.{is_lt}
@@ -50,7 +50,7 @@ module _ {K X : Type 0} {R : K → K → Ordering} (o : IsTotalOrder R) (key : X
         never_less (R e.0 f.0) (first (is_lt (R e.0 f.0)) (below_all R e.0 es) below)
         (ap (R e.0) (sym one) ∙ tied_itself o e.0)),
     apart_from e found (done ++ f ∷ []) es (next_is done f es is)
-    (second (is_lt (R e.0 f.0)) (below_all R e.0 es) below),
+        (second (is_lt (R e.0 f.0)) (below_all R e.0 es) below),
   )
 
   distinct_from : (done es : List (K × X)) → map.entries m ≡ done ++ es → T (is_sorted R es)
@@ -59,7 +59,7 @@ module _ {K X : Type 0} {R : K → K → Ordering} (o : IsTotalOrder R) (key : X
   distinct_from done [] is sorted = tt
   distinct_from done (e ∷ es) is sorted = (
     apart_from e (entry_found done e es is) (done ++ e ∷ []) es (next_is done e es is)
-    (first (below_all R e.0 es) (is_sorted R es) sorted),
+        (first (below_all R e.0 es) (is_sorted R es) sorted),
     distinct_from (done ++ e ∷ []) es (next_is done e es is) (tail_sorted o e es sorted),
   )
 

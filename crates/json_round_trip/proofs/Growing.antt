@@ -1,6 +1,6 @@
 -- A tree that grows to one that stands: its namespaces are namespaces of that tree, and its disks
 -- are held by those that are enabled.
-use Rattle.std.proofs.Common.{◌≡◌, ◌⊎◌, inl, inr, ◌≤◌, ◌<◌, ◌==◌, ℕ, Bool, true, false, cond, ◌||◌, IsTrue, List, [], ◌∷◌, Option, Some, None, is_some, refl, sym, ap, subst, ◌∙◌, arith}
+use Rattle.std.proofs.Common.{◌≡◌, ◌<◌, ◌==◌, ℕ, Bool, true, false, cond, ◌||◌, IsTrue, List, [], ◌∷◌, Option, Some, None, is_some, refl, sym, ap, subst, ◌∙◌, arith}
 use mathlib.Core.Logic.{⊎_elim}
 use Rattle.std.specs.List.{list_any}
 use Rattle.std.specs.Str.{bytes_eq}
@@ -8,9 +8,9 @@ use Rattle.std.specs.Ordering.{nat_cmp}
 use Rattle.std.specs.Cmp.{nat_cmp_total}
 use Rattle.std.specs.Cmp.Lexicographic.{nat_list_cmp_total}
 use Rattle.std.specs.FinMap as map
-use Rattle.std.specs.FinMap.{FinMap, nat_cmp-IsAntisymmetric}
+use Rattle.std.specs.FinMap.{nat_cmp-IsAntisymmetric}
 use Rattle.std.proofs.lemmas.Bool.{cases_Bool, both_ways}
-use Rattle.configfs_rows.specs.Holders.{disk_of, holder_of, hold, holds_path, has_disk, is_held, is_holder, paths_of, path_or_empty}
+use Rattle.configfs_rows.specs.Holders.{disk_of, holder_of, hold, holds_path, has_disk, is_held, paths_of}
 use Rattle.configfs_rows.specs.declared.limits.TheConstants.{MAX_SUBSYSTEMS}
 use Rattle.configfs_rows.specs.declared.disks.DiskRow.{DiskRow}
 use Rattle.configfs_rows.specs.declared.disks.Holder.{Holder}
@@ -22,10 +22,9 @@ use Rattle.configfs_rows.specs.Places.{lowest_free}
 use Rattle.configfs_rows.specs.Maps.{update_at}
 use Rattle.configfs_tree.specs.Standing.{Placed, placed, placed_in, placed_row, SubsystemPlaces, IsStanding}
 use Rattle.configfs_tree.specs.declared.configuration.Configuration.{Configuration}
-use Rattle.configfs_tree.proofs.Held.{here, cases_name, Slot, is_slot, no_slot, cases_slot, disk_of-hold_at, disk_of-hold_beside, Holding, holding, HasPath, path_of_holder}
+use Rattle.configfs_tree.proofs.Held.{here, cases_name, Slot, is_slot, no_slot, cases_slot, disk_of-hold_at, disk_of-hold_beside, Holding, holding, path_of_holder}
 use Rattle.configfs_tree.proofs.Kept.{Rows, Spaces, names_same, with_spaces, placed_others, placed_here, placed_was}
 use Rattle.configfs_tree.proofs.SoundTable.{hold_paths}
-use Rattle.json_round_trip.proofs.Steps.{Hosts, Ports, update_here}
 use Rattle.json_round_trip.proofs.Spaces.{disks_after, CanEnable}
 
 -- a namespace that is enabled and placed where a holder says, with the disk's path
@@ -119,10 +118,9 @@ same_subsystem t a b i j n k stands r q on on' level =
     let d : x.holds.d ≡ y.holds.d = some_same x.holds.d y.holds.d (sym x.holds.found
     ∙ (ap (λ (p : List ℕ). disk_of p t.disks) path ∙ y.holds.found)) in
     let h : x.holds.h ≡ y.holds.h = some_same x.holds.h y.holds.h (sym x.holds.held
-    ∙ (ap (λ (e : DiskRow). e.holder) d ∙ y.holds.held)) in
-    (
+    ∙ (ap (λ (e : DiskRow). e.holder) d ∙ y.holds.held)) in (
       stands.placed.subsystems.apart a b x.row y.row x.found y.found (sym x.holds.sub_is
-      ∙ (ap (λ (w : Holder). w.sub) h ∙ y.holds.sub_is)),
+          ∙ (ap (λ (w : Holder). w.sub) h ∙ y.holds.sub_is)),
       sym x.holds.nsid_is ∙ (ap (λ (w : Holder). w.nsid) h ∙ y.holds.nsid_is),
     )
 
@@ -176,14 +174,14 @@ module _ (t : Configuration) (m : Rows) (disks : List DiskRow) (s : SubsystemRow
   pub is_idle : holds_path disks s.at nsid n.device_path ≡ false
   is_idle = ⊎_elim (λ (e : holds_path disks s.at nsid n.device_path ≡ true). absurd (never e))
       (λ e. e) (cases_Bool (holds_path disks s.at nsid n.device_path)) where
-    never : holds_path disks s.at nsid n.device_path ≡ true → ⊥
-    never e =
-        let q = path_of_holder disks s.at nsid n.device_path e in
-        let k = holding disks s.at nsid q.path (ap (holds_path disks s.at nsid) (sym q.is) ∙ e) in
-        let on = g.holders q.path k.d k.h k.found k.held in
-        let w = stood (map.get m on.sub) k.h.nsid (here k.h.sub on.row) on.stands in
-        elsewhere on.sub k.h.nsid (here k.h.sub on.row) on.stands
-        (g.places.apart on.sub s.nqn w.s s w.is here_is (cc (w.at_is, k.sub_is))) k.nsid_is
+        never : holds_path disks s.at nsid n.device_path ≡ true → ⊥
+        never e =
+            let q = path_of_holder disks s.at nsid n.device_path e in
+            let k = holding disks s.at nsid q.path (ap (holds_path disks s.at nsid) (sym q.is) ∙ e) in
+            let on = g.holders q.path k.d k.h k.found k.held in
+            let w = stood (map.get m on.sub) k.h.nsid (here k.h.sub on.row) on.stands in
+            elsewhere on.sub k.h.nsid (here k.h.sub on.row) on.stands
+            (g.places.apart on.sub s.nqn w.s s w.is here_is (cc (w.at_is, k.sub_is))) k.nsid_is
 
   -- where it is to be enabled, its disk is there and free
   pub can_enable : n.enabled ≡ true → CanEnable disks n.device_path
@@ -196,14 +194,14 @@ module _ (t : Configuration) (m : Rows) (disks : List DiskRow) (s : SubsystemRow
         free = ⊎_elim (λ (e : is_held disks n.device_path ≡ true). absurd (never e))
             (λ e. e) (cases_Bool (is_held disks n.device_path));
       } where
-    never : is_held disks n.device_path ≡ true → ⊥
-    never e =
-        let k = held_disk disks n.device_path e in
-        let who = g.holders k.path k.d k.h k.found k.held in
-        let x = here k.h.sub who.row in
-        let one = same_subsystem t who.sub s.nqn k.h.nsid nsid who.row n stands
-        (g.rows who.sub k.h.nsid x who.stands) of who.on on (who.same_path ∙ sym k.path_is) in
-        elsewhere who.sub k.h.nsid x who.stands one.0 one.1
+        never : is_held disks n.device_path ≡ true → ⊥
+        never e =
+            let k = held_disk disks n.device_path e in
+            let who = g.holders k.path k.d k.h k.found k.held in
+            let x = here k.h.sub who.row in
+            let one = same_subsystem t who.sub s.nqn k.h.nsid nsid who.row n stands
+            (g.rows who.sub k.h.nsid x who.stands) of who.on on (who.same_path ∙ sym k.path_is) in
+            elsewhere who.sub k.h.nsid x who.stands one.0 one.1
 
   -- ---- and after it was made
   abbrev add : Spaces → Spaces

@@ -9,3 +9,4 @@ pub mod Counted
 pub mod Ports
 pub mod PortsMade
 pub mod Whole
+pub mod Accepted

@@ -1,5 +1,5 @@
 -- The namespaces of a subsystem are made again one after another, in the order of their NSIDs.
-use Rattle.std.proofs.Common.{◌≡◌, ◌≤◌, inl, ℕ, Bool, true, false, ◌&&◌, T, List, [], ◌∷◌, ◌++◌, map as each, cond, Option, Some, None, refl, sym, ap, subst, ◌∙◌, append_assoc}
+use Rattle.std.proofs.Common.{◌≡◌, inl, ℕ, Bool, true, false, T, List, [], ◌∷◌, ◌++◌, map as each, cond, Option, Some, None, refl, sym, ap, subst, ◌∙◌, append_assoc}
 use Rattle.std.proofs.lemmas.List.{append-nil}
 use Rattle.std.specs.Fmt.{decimal}
 use mathlib.Core.Logic.{⊎_elim}
@@ -28,7 +28,7 @@ use Rattle.nvmetcli_json.proofs.Shown.{right_true}
 use Rattle.nvmetcli_json.proofs.Sorted.{put_last, find_none, find_here}
 use Rattle.json_round_trip.specs.Reloads.{IsIdentifier, HasIdentifiers, HasAllIdentifiers, IsTyped}
 use Rattle.json_round_trip.proofs.Steps.{Hosts, Rows, Ports, Spaces, Goes, goes_nowhere, goes_then}
-use Rattle.json_round_trip.proofs.Spaces.{with_sub, with_space, sub_found, sub_put, next, disks_after, is_good_path, SpaceReads, SpaceReady, space_made}
+use Rattle.json_round_trip.proofs.Spaces.{with_sub, with_space, sub_found, sub_put, disks_after, is_good_path, SpaceReady, space_made}
 use Rattle.json_round_trip.proofs.Growing.{Grows, RowOf, is_idle, can_enable, grown}
 
 good_path : (path : Option (List ℕ)) → is_kept_path path ≡ true → is_good_path path ≡ true

@@ -1,13 +1,12 @@
 -- The subsystems are made again one after another, in the order of their names: each at a position
 -- of its own.
-use Rattle.std.proofs.Common.{◌≡◌, ◌≤◌, ◌<◌, ◌+◌, ℕ, Bool, true, false, IsTrue, T, List, [], ◌∷◌, ◌++◌, map as each, length, Option, Some, None, is_some, refl, sym, ap, subst, ◌∙◌, append_assoc, arith}
+use Rattle.std.proofs.Common.{◌≡◌, ◌≤◌, ◌<◌, ◌+◌, ℕ, T, List, [], ◌∷◌, ◌++◌, map as each, length, Some, None, refl, sym, ap, subst, ◌∙◌, append_assoc, arith}
 use Rattle.std.proofs.lemmas.List.{append-nil, length-append, nil_from_length}
 use Rattle.std.specs.Ordering.{nat_cmp}
-use Rattle.std.specs.Cmp.{nat_cmp_total}
 use Rattle.std.specs.Cmp.Lexicographic.{nat_list_cmp_total}
 use Rattle.std.specs.declared.cmp.Ordering.{Ordering}
 use Rattle.std.specs.FinMap as map
-use Rattle.std.specs.FinMap.{FinMap, find, put, is_sorted}
+use Rattle.std.specs.FinMap.{find, put, is_sorted}
 use Rattle.configfs_rows.specs.Nqns.{name_order}
 use Rattle.configfs_rows.specs.Places.{lowest_free}
 use Rattle.configfs_rows.specs.Subsystems.{fresh_subsystem}
@@ -25,10 +24,10 @@ use Rattle.nvmetcli_json.specs.Saving.{flag_text}
 use Rattle.nvmetcli_json.specs.Written.{flat, entry_written, subsystem_written}
 use Rattle.nvmetcli_json.proofs.Sorted.{put_last, find_none, find_here}
 use Rattle.json_round_trip.specs.Reloads.{IsTyped, unplaced_subsystem}
-use Rattle.json_round_trip.proofs.Steps.{Hosts, Rows, Ports, Spaces, tree_of, Goes, goes_one, goes_nowhere, goes_then}
+use Rattle.json_round_trip.proofs.Steps.{Hosts, Rows, Ports, tree_of, Goes, goes_one, goes_nowhere, goes_then}
 use Rattle.json_round_trip.proofs.Alike.{plain_entry, Alike, sorted_alike, length_alike, append_alike}
 use Rattle.json_round_trip.proofs.Spaces.{with_sub}
-use Rattle.json_round_trip.proofs.Growing.{Grows, RowOf, subsystem_grown}
+use Rattle.json_round_trip.proofs.Growing.{Grows, subsystem_grown}
 use Rattle.json_round_trip.proofs.Listed.{spaces_listed}
 use Rattle.json_round_trip.proofs.Subsystems.{subsystem_added, any_set, model_set, serial_set, hosts_allowed}
 

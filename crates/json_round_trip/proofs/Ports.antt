@@ -1,5 +1,5 @@
 -- A port is made again: its addresses, its ANA groups and their states, and its links.
-use Rattle.std.proofs.Common.{◌≡◌, ◌≤◌, ◌<◌, ◌==◌, ◌||◌, ◌&&◌, ◌+◌, not, nat_lt, nat_le, ℕ, Bool, true, false, cond, IsTrue, T, List, [], ◌∷◌, ◌++◌, map as each, length, codes, Option, Some, None, is_some, refl, sym, ap, subst, ◌∙◌, append_assoc, arith}
+use Rattle.std.proofs.Common.{◌≡◌, ◌≤◌, ◌<◌, ◌==◌, ◌||◌, not, nat_lt, ℕ, Bool, true, false, cond, IsTrue, T, List, [], ◌∷◌, ◌++◌, map as each, codes, Option, Some, None, is_some, refl, sym, ap, subst, ◌∙◌, append_assoc, arith}
 use mathlib.Core.Logic.{⊎_elim}
 use Rattle.std.proofs.lemmas.Bool.{cases_Bool, both_ways, lt-ltb, eqb-true}
 use Rattle.std.proofs.lemmas.Bool.Decides.{nat_tests}
@@ -23,18 +23,16 @@ use Rattle.configfs_rows.specs.declared.ports.Address.{Address}
 use Rattle.configfs_rows.specs.declared.ports.Address.TheVariants.{Trtype, Adrfam, Traddr, Trsvcid, Treq}
 use Rattle.configfs_rows.specs.declared.subsystems.SubsystemRow.{SubsystemRow}
 use Rattle.configfs_rows.proofs.Gets.{get-insert_at}
-use Rattle.sqe_cqe.specs.Anas.{ana_text, ana_named, ana_number}
+use Rattle.sqe_cqe.specs.Anas.{ana_text, ana_named}
 use Rattle.sqe_cqe.specs.declared.rows.Ana.{Ana}
 use Rattle.sqe_cqe.specs.declared.rows.Ana.TheVariants.{Optimized, NonOptimized, Inaccessible, PersistentLoss, Changing}
 use Rattle.configfs_tree.specs.Asked.{port_place_taken}
-use Rattle.configfs_tree.specs.Outcome.{Outcome, Refuses, Accepts, first_of, unless_stands, touching, on_port, if_group, counted, port_change}
+use Rattle.configfs_tree.specs.Outcome.{Accepts, unless_stands, touching, if_group}
 use Rattle.configfs_tree.specs.Table.{mkdir_port, mkdir_ana_group, set_address, set_ana_state, put_state}
 use Rattle.configfs_tree.specs.declared.edits.Attr.TheVariants as attr
-use Rattle.configfs_tree.specs.declared.edits.Change.{Change}
 use Rattle.configfs_tree.specs.declared.edits.Touched.TheVariants as touches
 use Rattle.configfs_tree.specs.declared.edits.Folder.TheVariants as folder
 use Rattle.configfs_tree.specs.declared.configuration.Configuration.{Configuration}
-use Rattle.configfs_tree.proofs.Decided.{left_false}
 use Rattle.configfs_tree.proofs.Kept.{one_put}
 use Rattle.link_rules.specs.Table.{link_subsystem}
 use Rattle.link_rules.specs.declared.edits.Edit.{Edit}
@@ -132,9 +130,9 @@ module _ (hosts : Hosts) (m : Rows) (ports : Ports) where
       ∙ passes _ _ (in_range group low high, (ap is_some new, tt)))
       ∙ ap (λ (x : Ports). Some (tree_of hosts m x (next count) disks))
       (port_put p (put_group group Inaccessible)) where
-    in_range : (g : ℕ) → 1 ≤ g → g ≤ MAX_ANA_GROUPS
-        → ((g == 0) || nat_lt MAX_ANA_GROUPS g) ≡ false
-    in_range g low high = grind (arith, nat_tests)
+        in_range : (g : ℕ) → 1 ≤ g → g ≤ MAX_ANA_GROUPS
+            → ((g == 0) || nat_lt MAX_ANA_GROUPS g) ≡ false
+        in_range g low high = grind (arith, nat_tests)
 
   state_or_same : (p : PortRow) (groups : Groups) (group count : ℕ) (old new : Ana)
       (disks : List DiskRow) (b : Bool) → same_state old new ≡ b
@@ -175,8 +173,13 @@ module _ (hosts : Hosts) (m : Rows) (ports : Ports) where
   unfolding link_subsystem
   link_made p s sub count disks there new loop =
       ap made_tree (at_port _ p.id p _ (port_found p) ∙ (in_sub _ sub s _ there
-      ∙ passes _ _ (ap is_some new, (ap not ((bytes_eq-Decides p.trtype (codes "loop")).1 loop),
-      tt))))
+      ∙ passes _ _ (
+        ap is_some new,
+        (
+          ap not ((bytes_eq-Decides p.trtype (codes "loop")).1 loop),
+          tt,
+        ),
+      )))
       ∙ ap (λ (x : Ports). Some (tree_of hosts m x count disks)) (port_put p (put_link sub true))
 
   -- a group but group 1, and its state

@@ -1,16 +1,15 @@
 -- The ports are made again one after another, in the order of their numbers: each at a position of
 -- its own.
-use Rattle.std.proofs.Common.{◌≡◌, ◌⊎◌, inl, inr, ◌≤◌, ◌<◌, ◌+◌, ◌==◌, ◌||◌, ◌&&◌, nat_le, ℕ, suc, Bool, true, false, cond, IsTrue, T, List, [], ◌∷◌, ◌++◌, map as each, length, codes, Option, Some, None, is_some, refl, sym, ap, subst, ◌∙◌, append_assoc, arith}
+use Rattle.std.proofs.Common.{◌≡◌, ◌⊎◌, ◌≤◌, ◌<◌, ◌+◌, ◌==◌, ◌||◌, ◌&&◌, nat_le, ℕ, Bool, true, false, cond, IsTrue, T, List, [], ◌∷◌, ◌++◌, map as each, length, Some, None, is_some, refl, sym, ap, subst, ◌∙◌, append_assoc, arith}
 use mathlib.Core.Logic.{⊎_elim}
 use Rattle.std.proofs.lemmas.Bool.{cases_Bool, both_ways, eqb-true}
 use Rattle.std.proofs.lemmas.List.{append-nil, length-append, nil_from_length}
 use Rattle.std.specs.Ordering.{nat_cmp, is_lt, eq_by_cmp}
 use Rattle.std.specs.Cmp.{nat_cmp_total, ranked}
-use Rattle.std.specs.Cmp.Lexicographic.{nat_list_cmp_total}
 use Rattle.std.specs.declared.cmp.Ordering.{Ordering}
 use Rattle.std.specs.declared.cmp.Ordering.TheVariants.{Less, Equal, Greater}
 use Rattle.std.specs.FinMap as map
-use Rattle.std.specs.FinMap.{FinMap, find, put, is_sorted, nat_cmp-IsAntisymmetric}
+use Rattle.std.specs.FinMap.{find, put, is_sorted, nat_cmp-IsAntisymmetric}
 use Rattle.std.specs.FinMap.Entries.{below_all}
 use Rattle.configfs_rows.specs.Nqns.{name_order}
 use Rattle.configfs_rows.specs.Places.{lowest_free}
@@ -21,7 +20,6 @@ use Rattle.configfs_rows.specs.declared.disks.DiskRow.{DiskRow}
 use Rattle.configfs_rows.specs.declared.ports.PortRow.{PortRow}
 use Rattle.configfs_rows.specs.declared.ports.Address.TheVariants.{Trtype, Adrfam, Traddr, Trsvcid, Treq}
 use Rattle.configfs_rows.proofs.Gets.{tied_is, get-insert_at}
-use Rattle.sqe_cqe.specs.Anas.{ana_text}
 use Rattle.sqe_cqe.specs.declared.rows.Ana.{Ana}
 use Rattle.sqe_cqe.specs.declared.rows.Ana.TheVariants.{Optimized}
 use Rattle.configfs_tree.specs.Asked.{port_place_taken}
@@ -30,7 +28,6 @@ use Rattle.configfs_tree.specs.Table.{set_addr_trtype, set_addr_adrfam, set_addr
 use Rattle.configfs_tree.specs.declared.edits.Attr.TheVariants as attr
 use Rattle.configfs_tree.specs.declared.edits.Folder.TheVariants as folder
 use Rattle.configfs_tree.specs.declared.configuration.Configuration.{Configuration}
-use Rattle.link_rules.specs.declared.edits.Edit.{Edit}
 use Rattle.nvmetcli_json.specs.Edits.{made, set, set_some, linked}
 use Rattle.nvmetcli_json.specs.Laws.{edited}
 use Rattle.nvmetcli_json.specs.Saving.{if_set}

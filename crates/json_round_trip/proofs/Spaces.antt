@@ -1,6 +1,5 @@
 -- A namespace is made again, edit by edit.
-use Rattle.std.proofs.Common.{◌≡◌, ◌≤◌, ◌<◌, ◌+◌, ◌-◌, ◌^◌, ◌==◌, ◌||◌, ◌&&◌, min, not, nat_lt, ℕ, Bool, true, false, cond, List, [], ◌∷◌, ◌++◌, length, codes, Option, Some, None, is_some, refl, sym, ap, ◌∙◌, arith}
-use Rattle.std.specs.List.{All}
+use Rattle.std.proofs.Common.{◌≡◌, ◌≤◌, ◌+◌, ◌-◌, ◌^◌, ◌==◌, ◌||◌, min, not, nat_lt, ℕ, Bool, true, false, cond, List, [], ◌∷◌, ◌++◌, codes, Option, Some, None, is_some, refl, sym, ap, ◌∙◌, arith}
 use Rattle.std.specs.Str.{bytes_eq}
 use Rattle.std.specs.Ordering.{nat_cmp}
 use Rattle.std.specs.Cmp.{nat_cmp_total}
@@ -9,19 +8,16 @@ use Rattle.std.specs.Fmt.{decimal}
 use Rattle.std.specs.FinMap as map
 use Rattle.std.specs.FinMap.{FinMap, nat_cmp-IsAntisymmetric}
 use Rattle.std.proofs.lemmas.Slice.Eq.{bytes_eq-Decides}
-use Rattle.std.proofs.lemmas.Bool.{lt-ltb, eqb-true}
+use Rattle.std.proofs.lemmas.Bool.{eqb-true}
 use Rattle.std.proofs.lemmas.Bool.Decides.{nat_tests}
 use Rattle.uuid.specs.Text.{hyphenated_text, lower, parsed}
-use Rattle.configfs_rows.specs.Nqns.{name_order}
 use Rattle.configfs_rows.specs.Values.{is_path, has_path, group_named}
 use Rattle.configfs_rows.specs.Maps.{update_at}
 use Rattle.configfs_rows.specs.Rows.{fresh_namespace, put_in, identifier_of}
 use Rattle.configfs_rows.specs.Subsystems.{add_namespace, put_namespace}
-use Rattle.configfs_rows.specs.Holders.{disk_of, holder_of, is_holder, hold, number_of, disk_number, paths_of, holds_path, has_disk, is_held, path_or_empty}
-use Rattle.configfs_rows.specs.declared.limits.TheConstants.{MAX_ANA_GROUPS}
+use Rattle.configfs_rows.specs.Holders.{hold, number_of, disk_number, paths_of, holds_path, has_disk, is_held, path_or_empty}
 use Rattle.sqe_cqe.specs.declared.rows.TheConstants.{MAX_NSID}
 use Rattle.configfs_rows.specs.declared.disks.DiskRow.{DiskRow}
-use Rattle.configfs_rows.specs.declared.disks.Holder.{Holder}
 use Rattle.configfs_rows.specs.declared.namespaces.NamespaceRow.{NamespaceRow}
 use Rattle.configfs_rows.specs.declared.namespaces.NamespacePut.{NamespacePut}
 use Rattle.configfs_rows.specs.declared.namespaces.NamespacePut.TheVariants.{Path, Identifier as NewIdentifier, Group, Enabled}
@@ -29,15 +25,13 @@ use Rattle.configfs_rows.specs.declared.namespaces.Identifier.{Identifier}
 use Rattle.configfs_rows.specs.declared.namespaces.Identifier.TheVariants.{Uuid, Nguid}
 use Rattle.configfs_rows.specs.declared.subsystems.SubsystemRow.{SubsystemRow}
 use Rattle.configfs_rows.proofs.Gets.{get-insert_at}
-use Rattle.configfs_tree.specs.Asked.{is_busy, is_draining}
-use Rattle.configfs_tree.specs.Outcome.{Outcome, Refuses, Accepts, first_of, either, unless_stands, namespace_change, on_subsystem}
+use Rattle.configfs_tree.specs.Outcome.{Accepts, either, unless_stands, namespace_change, on_subsystem}
 use Rattle.configfs_tree.specs.Table.{mkdir_namespace, set_device_path, set_identifier, set_ana_grpid, set_enable, put_on, put_parsed, put_group_of}
 use Rattle.configfs_tree.specs.declared.edits.Change.{Change}
 use Rattle.configfs_tree.specs.declared.edits.Attr.TheVariants as attr
 use Rattle.configfs_tree.specs.declared.edits.Folder.TheVariants as folder
 use Rattle.configfs_tree.specs.declared.configuration.Configuration.{Configuration}
 use Rattle.configfs_tree.proofs.Kept.{names_same}
-use Rattle.link_rules.specs.declared.edits.Edit.{Edit}
 use Rattle.nvmetcli_json.specs.Edits.{made, set, set_some}
 use Rattle.nvmetcli_json.specs.Laws.{made_tree, edited, all_edited}
 use Rattle.nvmetcli_json.specs.Loading.{enabling}

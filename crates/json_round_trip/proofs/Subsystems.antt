@@ -1,16 +1,14 @@
 -- A subsystem is made again: its attributes, the hosts that it allows, and its namespaces.
-use Rattle.std.proofs.Common.{◌≡◌, ◌≤◌, ◌<◌, ◌==◌, ◌||◌, ◌&&◌, ◌+◌, not, nat_lt, nat_le, ℕ, zero, suc, Bool, true, false, IsTrue, T, List, [], ◌∷◌, ◌++◌, map as each, length, codes, replicate, slice_index, Option, Some, None, is_some, refl, sym, ap, subst, ◌∙◌, append_assoc, arith}
+use Rattle.std.proofs.Common.{◌≡◌, ◌<◌, ◌==◌, ◌||◌, ◌&&◌, ◌+◌, not, nat_lt, nat_le, ℕ, zero, suc, Bool, true, false, IsTrue, T, List, [], ◌∷◌, ◌++◌, map as each, length, replicate, slice_index, Some, None, is_some, refl, sym, ap, subst, ◌∙◌, append_assoc, arith}
 use mathlib.Core.Logic.{⊎_elim}
 use Rattle.std.proofs.lemmas.Bool.{cases_Bool, lt-ltb}
 use Rattle.std.proofs.lemmas.Bool.Decides.{nat_tests}
 use Rattle.std.proofs.lemmas.List.{append-nil, length-append}
 use Rattle.std.proofs.lemmas.Slice.Eq.{bytes_eq-Decides}
 use Rattle.std.specs.Str.{bytes_eq}
-use Rattle.std.specs.Ordering.{nat_cmp}
-use Rattle.std.specs.Cmp.{nat_cmp_total}
 use Rattle.std.specs.Cmp.Lexicographic.{nat_list_cmp_total}
 use Rattle.std.specs.FinMap as map
-use Rattle.std.specs.FinMap.{FinMap, find, put, is_sorted}
+use Rattle.std.specs.FinMap.{find, put, is_sorted}
 use Rattle.configfs_rows.specs.Nqns.{name_order, discovery_nqn}
 use Rattle.configfs_rows.specs.Places.{lowest_free}
 use Rattle.configfs_rows.specs.Values.{is_short, same_bool}
@@ -20,7 +18,7 @@ use Rattle.configfs_rows.specs.declared.disks.DiskRow.{DiskRow}
 use Rattle.configfs_rows.specs.declared.subsystems.SubsystemRow.{SubsystemRow}
 use Rattle.configfs_rows.specs.declared.subsystems.SubsystemPut.TheVariants.{AllowAnyHost, Serial, ModelName}
 use Rattle.configfs_tree.specs.Asked.{subsystem_place_taken}
-use Rattle.configfs_tree.specs.Outcome.{Outcome, Accepts, first_of, unless_stands, on_subsystem}
+use Rattle.configfs_tree.specs.Outcome.{Accepts, unless_stands, on_subsystem}
 use Rattle.configfs_tree.specs.Table.{mkdir_subsystem, set_attr_allow_any_host, set_attr_model, set_attr_serial}
 use Rattle.configfs_tree.specs.declared.edits.Attr.TheVariants as attr
 use Rattle.configfs_tree.specs.declared.edits.Change.{Change}
@@ -88,8 +86,11 @@ module _ (hosts : Hosts) (m : Rows) (ports : Ports) where
   unfolding set_attr_serial
   serial_set s count disks value short =
       ap made_tree (in_sub _ s.nqn s _ (sub_found hosts m ports s)
-      ∙ passes _ _ (fits (length value) SERIAL_LEN _ (right_true _ _ short)
-      (none_attached MAX_SUBSYSTEMS s.at), tt))
+      ∙ passes _ _ (
+        fits (length value) SERIAL_LEN _ (right_true _ _ short)
+            (none_attached MAX_SUBSYSTEMS s.at),
+        tt,
+      ))
       ∙ attr_or_same s (put_in_subsystem (Serial value)) count disks _ _
       (λ e. ap (λ (v : List ℕ). record s { serial = v }) ((bytes_eq-Decides s.serial value).0 e)) refl
 
@@ -101,9 +102,12 @@ module _ (hosts : Hosts) (m : Rows) (ports : Ports) where
   unfolding set_attr_model
   model_set s count disks value short =
       ap made_tree (in_sub _ s.nqn s _ (sub_found hosts m ports s)
-      ∙ passes _ _ (fits_filled (length value) MODEL_LEN _
-      (right_true _ _ (left_true _ (nat_lt 0 (length value)) short))
-      (right_true (is_short value MODEL_LEN) _ short) (none_attached MAX_SUBSYSTEMS s.at), tt))
+      ∙ passes _ _ (
+        fits_filled (length value) MODEL_LEN _
+            (right_true _ _ (left_true _ (nat_lt 0 (length value)) short))
+            (right_true (is_short value MODEL_LEN) _ short) (none_attached MAX_SUBSYSTEMS s.at),
+        tt,
+      ))
       ∙ attr_or_same s (put_in_subsystem (ModelName value)) count disks _ _
       (λ e. ap (λ (v : List ℕ). record s { model_name = v })
       ((bytes_eq-Decides s.model_name value).0 e)) refl

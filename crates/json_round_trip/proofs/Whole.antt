@@ -1,7 +1,7 @@
 -- The whole tree is made again.
-use Rattle.std.proofs.Common.{◌≡◌, ◌≤◌, ◌<◌, ◌+◌, ℕ, Bool, true, false, IsTrue, List, [], ◌∷◌, ◌++◌, map as each, length, codes, cond, Option, Some, None, Ok, is_some, refl, sym, ap, subst, ◌∙◌, arith}
-use Rattle.std.proofs.lemmas.Bool.{cases_Bool, both_ways, lt-ltb}
-use Rattle.std.proofs.lemmas.List.{append-nil, nil_from_length}
+use Rattle.std.proofs.Common.{◌≡◌, ◌≤◌, ◌<◌, ◌+◌, ℕ, Bool, true, false, IsTrue, List, [], ◌∷◌, ◌++◌, map as each, length, codes, cond, Option, Some, None, refl, sym, ap, ◌∙◌, arith}
+use Rattle.std.proofs.lemmas.Bool.{lt-ltb}
+use Rattle.std.proofs.lemmas.List.{append-nil}
 use Rattle.std.specs.List.{list_any, list_all}
 use Rattle.std.specs.Option.{option_and_then}
 use Rattle.std.specs.Str.{bytes_eq}
@@ -9,7 +9,6 @@ use Rattle.std.specs.Ordering.{nat_cmp, eq_by_cmp}
 use Rattle.std.specs.Cmp.{nat_cmp_total}
 use Rattle.std.specs.Cmp.Lexicographic.{nat_list_cmp_total}
 use Rattle.std.specs.FinMap as map
-use Rattle.std.specs.FinMap.{FinMap, nat_cmp-IsAntisymmetric}
 use Rattle.serde_json.specs.Data.{Data, array, object, member, no_members}
 use Rattle.serde_json.specs.View.{items_of}
 use Rattle.serde_json.specs.Written.{compact_text}
@@ -18,30 +17,28 @@ use Rattle.configfs_rows.specs.Holders.{disk_of, holder_of, paths_of}
 use Rattle.configfs_rows.specs.Nqns.{name_order}
 use Rattle.configfs_rows.specs.declared.limits.TheConstants.{MAX_SUBSYSTEMS, MAX_PORTS}
 use Rattle.configfs_rows.specs.declared.disks.DiskRow.{DiskRow}
-use Rattle.configfs_rows.specs.declared.disks.Holder.{Holder}
 use Rattle.configfs_rows.specs.declared.ports.PortRow.{PortRow}
 use Rattle.configfs_rows.specs.declared.subsystems.SubsystemRow.{SubsystemRow}
 use Rattle.configfs_rows.proofs.Gets.{some_same, none_some}
 use Rattle.configfs_tree.specs.Outcome.{Outcome, Refuses, Accepts}
-use Rattle.configfs_tree.specs.Standing.{Placed, placed, placed_in, IsStanding}
+use Rattle.configfs_tree.specs.Standing.{placed_in, IsStanding}
 use Rattle.configfs_tree.specs.Start.{empty_tree, free_disk, line_path}
 use Rattle.configfs_tree.specs.declared.configuration.Configuration.{Configuration}
-use Rattle.configfs_tree.proofs.Kept.{names_same}
 use Rattle.link_rules.specs.Table.{edit_outcome}
 use Rattle.link_rules.specs.declared.edits.Edit.{Edit}
 use Rattle.nvmetcli_json.specs.Laws.{made_tree, all_edited}
-use Rattle.nvmetcli_json.specs.Saving.{list_of, host_data, tree_data, subsystem_data, attributes_data, port_data, addresses_data, saved}
+use Rattle.nvmetcli_json.specs.Saving.{list_of, host_data, tree_data, subsystem_data, attributes_data, port_data, addresses_data}
 use Rattle.nvmetcli_json.specs.Written.{flat, host_written, subsystem_written, port_written, tree_written, has_short_id}
 use Rattle.nvmetcli_json.proofs.Rebuilt.{hosts_made}
 use Rattle.nvmetcli_json.proofs.ReadingPorts.{tree_read}
 use Rattle.nvmetcli_json.proofs.Sorted.{all_values}
 use Rattle.nvmetcli_json.proofs.Standing.{standing_reads}
-use Rattle.tree_target.specs.Loads.{Loaded, RefusedEdit, LoadedTree, load_on, load_from, loaded}
+use Rattle.tree_target.specs.Loads.{LoadedTree, load_on, load_from}
 use Rattle.json_round_trip.specs.Reloads.{unplaced_subsystem, unplaced_port, IsTyped, HasDisksOf, Reloads}
-use Rattle.json_round_trip.proofs.Steps.{Hosts, Rows, Ports, tree_of, Goes, goes_then}
+use Rattle.json_round_trip.proofs.Steps.{Rows, Ports, tree_of, Goes, goes_then}
 use Rattle.json_round_trip.proofs.Alike.{Alike, keys_alike, get_alike, shown_alike}
 use Rattle.json_round_trip.proofs.Counted.{few_places}
-use Rattle.json_round_trip.proofs.Growing.{Grows, RowOf}
+use Rattle.json_round_trip.proofs.Growing.{Grows}
 use Rattle.json_round_trip.proofs.Listed.{value_has}
 use Rattle.json_round_trip.proofs.Made.{subsystems_made, no_entries}
 use Rattle.json_round_trip.proofs.PortsMade.{ports_made}
@@ -146,12 +143,12 @@ module _ (lines : List DiskLine) (t : Configuration) (stands : IsStanding t) (ty
       ∙ ap (λ (ss : List Data). shown (each port_data (map.values t.settings.ports)) ss)
       (shown_alike name_order unplaced_subsystem subsystem_data same_subsystem_data (map.entries m)
       (map.entries t.settings.subsystems) subs_alike) where
-    shown : List Data → List Data → Data
-    shown ps ss = object (
-        member (codes "hosts") (list_of host_data (map.keys t.settings.hosts))
-        (member (codes "ports") (array (items_of ps))
-        (member (codes "subsystems") (array (items_of ss))
-        no_members)))
+        shown : List Data → List Data → Data
+        shown ps ss = object (
+            member (codes "hosts") (list_of host_data (map.keys t.settings.hosts))
+            (member (codes "ports") (array (items_of ps))
+            (member (codes "subsystems") (array (items_of ss))
+            no_members)))
 
   pub reloads : Reloads lines t
   unfolding tree_written all_edited

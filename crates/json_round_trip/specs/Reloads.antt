@@ -1,5 +1,5 @@
 -- A saved configuration that is loaded again.
-use Rattle.std.specs.Prelude.{◌≡◌, ◌<◌, ℕ, List, length, map as each, option_map, Some, Ok}
+use Rattle.std.specs.Prelude.{◌≡◌, ◌<◌, ℕ, List, length, map as each, option_map, Ok}
 use Rattle.std.specs.List.{All}
 use Rattle.std.specs.FinMap as map
 use Rattle.configfs_rows.specs.declared.namespaces.NamespaceRow.{NamespaceRow}
@@ -12,7 +12,7 @@ use Rattle.link_rules.specs.declared.edits.Edit.{Edit}
 use Rattle.mem_bdev.specs.declared.disk.DiskLine.{DiskLine}
 use Rattle.nvmetcli_json.specs.Loading.{edits_in}
 use Rattle.nvmetcli_json.specs.Saving.{tree_data, saved}
-use Rattle.tree_target.specs.Loads.{LoadedTree, loaded}
+use Rattle.tree_target.specs.Loads.{LoadedTree, load_from, loaded}
 
 -- ---- what the types of a tree's rows say, and its finite maps don't
 -- 16 bytes, as a UUID or an NGUID has
@@ -32,6 +32,11 @@ HasAllIdentifiers s = All (λ (e : ℕ × NamespaceRow). HasIdentifiers e.1) (ma
 pub record IsTyped (t : Configuration) : Type 0 where
   pub identifiers : All HasAllIdentifiers (map.values t.settings.subsystems)
   pub short_ids : All (λ (p : PortRow). p.id < 65536) (map.values t.settings.ports)
+
+-- each of these edits is accepted, one after another from this tree on
+pub record IsAccepted (t : Configuration) (edits : List Edit) : Type 0 where
+  pub tree : Configuration
+  pub loads : load_from 1 t edits ≡ LoadedTree tree
 
 -- the disks of the tree are those of the plan, in its order
 abbrev pub HasDisksOf : List DiskLine → Configuration → Type 0

@@ -2,7 +2,9 @@
 #![tactic(auto)]
 
 mod laws;
+mod reload;
 mod typed;
 
 pub use laws::{saved_configuration_loads_again, saved_tree_loads_again};
+pub use reload::reloaded;
 pub use typed::certify_types;
