@@ -1,9 +1,17 @@
 -- Edits that are made one after another in a loop, and the tree that they make.
-use Rattle.std.proofs.Common.{◌≡◌, ℕ, suc, ◌+◌, ◌<◌, ◌≤◌, List, ◌∷◌, length, map as each, get_or, drop, drop-cons, nat_le, Bool, true, Ok, Err, sym, ap, subst, ◌∙◌, arith}
-use Rattle.std.proofs.lemmas.Bool.{le-leb}
+use Rattle.std.proofs.Common.{◌≡◌, ℕ, suc, ◌+◌, ◌<◌, ◌≤◌, List, ◌∷◌, length, map as each, get_or, drop, drop-cons, nat_le, Bool, true, Ok, Err, sym, ap, subst, ◌∙◌, arith, ◌++◌, [], take, add-one, Some, false}
+use Rattle.std.proofs.Math.Seq.{take-suc}
+use Rattle.std.proofs.lemmas.Bool.{both_ways, le-leb}
+use Rattle.std.proofs.lemmas.Option.{slice_get_within, get_or_from_slice_get, slice_get-get_or, slice_get-map}
+use Rattle.std.proofs.lemmas.Slice.Eq.{bytes_eq-Decides}
+use Rattle.std.specs.List.{slice_get}
+use Rattle.std.specs.Option.{option_map}
+use Rattle.std.specs.Str.{bytes_eq}
 use Rattle.std.proofs.lemmas.List.{length-map}
 use Rattle.mem_bdev.specs.declared.disk.DiskLine.{DiskLine}
-use Rattle.configfs_rows.specs.Holders.{are_apart, paths_of}
+use Rattle.configfs_rows.specs.Holders.{are_apart, disk_path, paths_of}
+use Rattle.configfs_rows.proofs.Gets.{some_same}
+use Rattle.configfs_rows.specs.declared.disks.DiskRow.{DiskRow}
 use Rattle.configfs_rows.specs.declared.limits.TheConstants.{MAX_DISKS}
 use Rattle.configfs_tree.specs.Outcome.{Outcome, Refuses}
 use Rattle.configfs_tree.specs.Standing.{IsStanding}
@@ -67,3 +75,48 @@ module _ (lines : List DiskLine) (t empty : Configuration) (es edits : List Edit
 
   pub accepted : IsAccepted empty edits
   accepted = record { tree = r.tree; loads = loads }
+
+-- ---- the paths of disks, compared one after another
+-- the path at a place of the disks, and of the lines
+record BothAt (disks : List DiskRow) (lines : List DiskLine) (i : ℕ) (d : DiskRow) (l : DiskLine)
+    : Type 0 where
+  disk : slice_get (paths_of disks) i ≡ Some d.path
+  line : slice_get (each line_path lines) i ≡ Some l.path
+
+both_at : (disks : List DiskRow) (lines : List DiskLine) (i : ℕ) (d : DiskRow) (l : DiskLine)
+    → Some d ≡ slice_get disks i → i < length lines → l ≡ get_or lines i l
+    → BothAt disks lines i d l
+both_at disks lines i d l got lt is = record {
+  disk = slice_get-map disk_path disks i ∙ ap (option_map disk_path) (sym got);
+  line = slice_get-map line_path lines i ∙ ap (option_map line_path)
+      (slice_get-get_or lines i l lt ∙ ap (λ (x : DiskLine). Some x) (sym is));
+}
+
+pub paths_differ : (disks : List DiskRow) (lines : List DiskLine) (i : ℕ) (d : DiskRow)
+    (l : DiskLine) → Some d ≡ slice_get disks i → i < length lines → l ≡ get_or lines i l
+    → bytes_eq d.path l.path ≡ false → paths_of disks ≡ each line_path lines → ⊥
+paths_differ disks lines i d l got lt is differ same =
+    let at = both_at disks lines i d l got lt is in
+    both_ways (bytes_eq d.path l.path) differ ((bytes_eq-Decides d.path l.path).1
+    (some_same d.path l.path (sym at.disk ∙ (ap (λ (ps : List (List ℕ)). slice_get ps i) same
+    ∙ at.line))))
+
+one_more : (ps qs : List (List ℕ)) (i : ℕ) (p : List ℕ) → slice_get ps i ≡ Some p
+    → slice_get qs i ≡ Some p → take i ps ≡ take i qs → take (i + 1) ps ≡ take (i + 1) qs
+one_more ps qs i p at at' so_far =
+    let lt : i < length ps = slice_get_within ps i p at in
+    let lt' : i < length qs = slice_get_within qs i p at' in
+    ap (λ n. take n ps) (add-one i) ∙ (take-suc ps i p lt
+    ∙ (ap (λ xs. xs ++ get_or ps i p ∷ []) so_far
+    ∙ (ap (λ x. take i qs ++ x ∷ []) (get_or_from_slice_get ps i p p at
+    ∙ sym (get_or_from_slice_get qs i p p at'))
+    ∙ (sym (take-suc qs i p lt') ∙ ap (λ n. take n qs) (sym (add-one i))))))
+
+pub paths_so_far : (disks : List DiskRow) (lines : List DiskLine) (i : ℕ) (d : DiskRow)
+    (l : DiskLine) → Some d ≡ slice_get disks i → i < length lines → l ≡ get_or lines i l
+    → bytes_eq d.path l.path ≡ true → take i (paths_of disks) ≡ take i (each line_path lines)
+    → take (i + 1) (paths_of disks) ≡ take (i + 1) (each line_path lines)
+paths_so_far disks lines i d l got lt is same so_far =
+    let at = both_at disks lines i d l got lt is in
+    one_more (paths_of disks) (each line_path lines) i d.path at.disk (at.line
+    ∙ ap (λ (p : List ℕ). Some p) (sym ((bytes_eq-Decides d.path l.path).0 same))) so_far

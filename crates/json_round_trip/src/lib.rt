@@ -3,8 +3,12 @@
 
 mod laws;
 mod reload;
+#[cfg(test)]
+mod rows;
+#[cfg(test)]
+mod tests;
 mod typed;
 
 pub use laws::{saved_configuration_loads_again, saved_tree_loads_again};
-pub use reload::reloaded;
+pub use reload::{has_disks_of, reloaded};
 pub use typed::certify_types;

@@ -1,5 +1,5 @@
 // A tree that is saved and loaded again, as over a restart.
-ghost use Rattle.std.specs.Prelude.{◌≡◌, true, IfOk, IsTrue, Ok};
+ghost use Rattle.std.specs.Prelude.{◌≡◌, true, Decides, IfOk, IsTrue, Ok};
 ghost use Rattle.std.specs.List.{All, list_all};
 ghost use Rattle.link_rules.specs.Table.{is_fitting};
 ghost use Rattle.nvmetcli_json.specs.Loading.{edits_in};
@@ -44,10 +44,31 @@ fn edited(alloc: Global, tree: Tree, edits: &[Edit]) -> Result<Tree, AllocError>
     Ok(made)
 }
 
+/// Whether the disks of a tree are those of a plan, in its order: they have the same paths.
+pub fn has_disks_of(t: &Tree, lines: &[DiskLine]) -> bool
+    ensures { Decides result (HasDisksOf lines.now t.now) }
+{
+    t.certify();
+    let disks = t.disks();
+    if disks.len() != lines.len() {
+        return false;
+    }
+    for (i, line) in lines.iter().enumerate() {
+        let Some(row) = disks.get(i as u8) else {
+            return false;
+        };
+        if row.path.as_bytes() != line.path.as_bytes() {
+            return false;
+        }
+    }
+    true
+}
+
 /// Saves a tree in nvmetcli's JSON and loads the text over the same disks: the tree as a saved
 /// file brings it back. It is the same but for its positions, its counts and its holders, so that
 /// a namespace that was draining is off, and of it the same text is saved. What is saved is always
-/// read, and none of its edits is refused: only memory may be wanting.
+/// read, and none of its edits is refused: only memory may be wanting. `has_disks_of` tells whether
+/// the disks are the tree's.
 pub fn reloaded(alloc: Global, t: &Tree, lines: &[DiskLine]) -> Result<Tree, AllocError>
     requires { HasDisksOf lines.now t.now }
     ensures tree { IfOk result (λ u. IsSameTree t.now u) }
