@@ -1,6 +1,6 @@
 -- The ports are made again one after another, in the order of their numbers: each at a position of
 -- its own.
-use Rattle.std.proofs.Common.{◌≡◌, ◌⊎◌, ◌≤◌, ◌<◌, ◌+◌, ◌==◌, ◌||◌, ◌&&◌, nat_le, ℕ, Bool, true, false, cond, IsTrue, T, List, [], ◌∷◌, ◌++◌, map as each, length, Some, None, is_some, refl, sym, ap, subst, ◌∙◌, append_assoc, arith}
+use Rattle.std.proofs.Common.{◌≡◌, ◌⊎◌, ◌≤◌, ◌<◌, ◌+◌, ◌==◌, ◌||◌, nat_le, ℕ, Bool, true, false, cond, IsTrue, T, List, [], ◌∷◌, ◌++◌, map as each, length, Some, None, is_some, refl, sym, ap, subst, ◌∙◌, append_assoc, arith}
 use mathlib.Core.Logic.{⊎_elim}
 use Rattle.std.proofs.lemmas.Bool.{cases_Bool, both_ways, eqb-true}
 use Rattle.std.proofs.lemmas.List.{append-nil, length-append, nil_from_length}
@@ -38,17 +38,10 @@ use Rattle.json_round_trip.specs.Reloads.{unplaced_port}
 use Rattle.json_round_trip.proofs.Steps.{Hosts, Rows, Ports, tree_of, Goes, goes_one, goes_nowhere, goes_then}
 use Rattle.json_round_trip.proofs.Spaces.{next}
 use Rattle.json_round_trip.proofs.Alike.{plain_entry, Alike, sorted_alike, length_alike, append_alike}
+use Rattle.json_round_trip.proofs.Counted.{first, second}
 use Rattle.json_round_trip.proofs.Ports.{with_port, with_groups, port_added, address_put, state_set, groups_made, links_made, Groups}
 
 -- ---- group 1 of a port is its first
-first : (a b : Bool) → T (a && b) → T a
-first true b p = tt
-first false b p = p
-
-second : (a b : Bool) → T (a && b) → T b
-second true b p = p
-second false b p = absurd p
-
 less : (o : Ordering) → T (is_lt o) → o ≡ Less
 less Less p = refl
 less Equal p = absurd p

@@ -49,8 +49,8 @@ unplaced_subsystem s = record s { at = 0 }
 abbrev pub unplaced_port : PortRow → PortRow
 unplaced_port p = record p { at = 0 }
 
--- two trees are one but for the positions of their rows, who holds their disks, and what is counted:
--- so a namespace that was draining may be off
+-- two trees are one but for the positions of their rows, who holds their disks, the controllers
+-- that are attached and the count of changes: so a namespace that was draining may be off
 pub record IsSameTree (t u : Configuration) : Type 0 where
   pub hosts : u.settings.hosts ≡ t.settings.hosts
   pub subsystems : (sub : List ℕ)

@@ -10,5 +10,5 @@ mod tests;
 mod typed;
 
 pub use laws::{saved_configuration_loads_again, saved_tree_loads_again};
-pub use reload::{has_disks_of, reloaded};
+pub use reload::{has_disks_of, reload_tree};
 pub use typed::certify_types;

@@ -28,7 +28,7 @@ fn saved_edits(alloc: Global, t: &Tree) -> Result<Edits, AllocError>
 }
 
 // The tree after edits that are all accepted, one after another.
-fn edited(alloc: Global, tree: Tree, edits: &[Edit]) -> Result<Tree, AllocError>
+fn make_edits(alloc: Global, tree: Tree, edits: &[Edit]) -> Result<Tree, AllocError>
     requires fitting { All (λ e. IsTrue (is_fitting e)) edits.now }
     requires accepted { IsAccepted tree edits.now }
     ensures { IfOk result (λ u. load_from 1 tree edits.now ≡ LoadedTree u) }
@@ -64,12 +64,12 @@ pub fn has_disks_of(t: &Tree, lines: &[DiskLine]) -> bool
     true
 }
 
-/// Saves a tree in nvmetcli's JSON and loads the text over the same disks: the tree as a saved
-/// file brings it back. It is the same but for its positions, its counts and its holders, so that
-/// a namespace that was draining is off, and of it the same text is saved. What is saved is always
-/// read, and none of its edits is refused: only memory may be wanting. `has_disks_of` tells whether
-/// the disks are the tree's.
-pub fn reloaded(alloc: Global, t: &Tree, lines: &[DiskLine]) -> Result<Tree, AllocError>
+/// Saves a tree in nvmetcli's JSON and loads the text over the same disks (`has_disks_of` tells):
+/// the tree as a saved file brings it back. It is the same but for its positions, its holders and
+/// its counts, so that a namespace that was draining is off, and of it the same text is saved. What
+/// is saved is always read, and none of its edits is refused: only memory may be wanting. The tree
+/// that was saved stays.
+pub fn reload_tree(alloc: Global, t: &Tree, lines: &[DiskLine]) -> Result<Tree, AllocError>
     requires { HasDisksOf lines.now t.now }
     ensures tree { IfOk result (λ u. IsSameTree t.now u) }
     ensures text { IfOk result (λ u. saved u ≡ saved t.now) }
@@ -78,5 +78,5 @@ pub fn reloaded(alloc: Global, t: &Tree, lines: &[DiskLine]) -> Result<Tree, All
     saved_tree_loads_again(t, lines);
     let edits = saved_edits(alloc, t)?;
     let empty = Tree::new(alloc, lines)?;
-    edited(alloc, empty, edits.as_slice())
+    make_edits(alloc, empty, edits.as_slice())
 }

@@ -1,5 +1,5 @@
 // Trees are saved and loaded again.
-use crate::reload::{has_disks_of, reloaded};
+use crate::reload::{has_disks_of, reload_tree};
 use crate::rows::*;
 use configfs_tree::{Attr, Folder, FolderEdit, Nqn, Phase, Tree, may_be_disks};
 use link_rules::{Edit, apply};
@@ -44,7 +44,7 @@ fn tree_of(rt: &impl Abort, alloc: Global, lines: &[DiskLine], text: &str) -> Tr
 // The tree that is saved and loaded again, of which this text is saved.
 fn again(rt: &impl Abort, alloc: Global, tree: &Tree, lines: &[DiskLine], text: &str) -> Tree {
     assert!(rt; has_disks_of(tree, lines), "the tree's disks");
-    let other = reloaded(alloc, tree, lines).expect(rt, "memory");
+    let other = reload_tree(alloc, tree, lines).expect(rt, "memory");
     let saved = save(alloc, &other).expect(rt, "memory");
     assert!(rt; saved.as_slice() == text.as_bytes(), "{text}");
     other
@@ -100,14 +100,14 @@ fn other_disks_are_told(rt: HostRuntime) {
     assert!(rt; !has_disks_of(&tree, &lines[..1]));
 }
 
-// Where memory is refused to `reloaded` alone, the tree stays, and the next call does it.
+// Where memory is refused to `reload_tree` alone, the tree stays, and the next call does it.
 #[test]
 fn refused_memory_is_told(rt: HostRuntime) {
     let alloc = rt.alloc();
     let lines = disks(&rt, alloc);
     let tree = tree_of(&rt, alloc, &lines, PORTS);
     assert!(rt; has_disks_of(&tree, &lines), "the tree's disks");
-    if reloaded(alloc, &tree, &lines).is_err() {
+    if reload_tree(alloc, &tree, &lines).is_err() {
         again(&rt, alloc, &tree, &lines, PORTS_SAVED);
     }
 }

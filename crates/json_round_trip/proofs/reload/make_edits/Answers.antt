@@ -2,7 +2,7 @@ use Rattle.std.proofs.Common.{arith, ◌<◌, length}
 use Rattle.tree_target.specs.Loads.{load_from}
 use Rattle.tree_target.proofs.Starts.{loads_next}
 use Rattle.json_round_trip.proofs.Accepted.{never_refused, refused_as}
-use Rattle.json_round_trip.proofs.reload.edited.Goals as goal
+use Rattle.json_round_trip.proofs.reload.make_edits.Goals as goal
 
 pub loop-i-preserved : goal.loop-i-preserved
 loop-i-preserved c =
