@@ -1,3 +1,0 @@
-pub mod Simple
-pub mod OneDisk
-pub mod Replays

@@ -1,5 +1,0 @@
-use Rattle.seq_target.proofs.Replays.{legal}
-use Rattle.seq_target.proofs.law.lawful_calls_are_legal.Goals as goal
-
-pub returns : goal.returns
-returns c = legal
