@@ -100,8 +100,8 @@ events_by v k e =
 unfoldable pub events_after : View → Events → Sqe → Events
 events_after v k e = if status_before v e == SUCCESS then events_by v k e else k
 
--- ---- a poll: a namespace notice before an ANA notice, of all changes so far; it completes the event
--- request that was submitted last
+-- ---- a poll: a namespace notice before an ANA notice, of all changes so far; it completes the
+-- event request that was submitted last
 unfoldable pub polled : View → Events → Events
 polled v k = with_notices (caught_up_with v k) (taken (noted (caught_up_with v k))).0
 

@@ -165,8 +165,8 @@ fn admit_plain<L: Look>(c: &Ctrl, ev: &mut Events, e: &Sqe, look: &mut L) -> Adm
 /// command's own. Data of a command that succeeds are written behind what `to` holds, once. A
 /// refused command changes nothing that the host can see. Takes no memory.
 ///
-/// Get Log Page is checked by `check_log`, Identify by `check_identify`. All others have no data, else
-/// 801Eh: Abort answers with 1 (nothing was aborted), Keep Alive with 0, Set Features and Get
+/// Get Log Page is checked by `check_log`, Identify by `check_identify`. All others have no data,
+/// else 801Eh: Abort answers with 1 (nothing was aborted), Keep Alive with 0, Set Features and Get
 /// Features as `features` says, and an Asynchronous Event Request waits, or is 820Ah exactly where
 /// four wait.
 #[tactic(auto, using(crate::proofs::Rooms::none_appended), unfolding(crate::specs::Admin::admin_reply, crate::specs::Admin::admin_bytes, crate::specs::Admin::events_after))]

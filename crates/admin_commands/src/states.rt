@@ -11,8 +11,8 @@ use sqe_cqe::{Ctrl, Look, Sqe};
 use std::alloc::{AllocError, Global};
 use std::marker::Model;
 
-/// The events of each controller, in the order of the controllers' numbers, from 1, with room for 31.
-/// Contracts see the list of them.
+/// The events of each controller, in the order of the controllers' numbers, from 1, with room for
+/// 31. Contracts see the list of them.
 #[derive(Drop)]
 pub struct EventStates {
     states: Vec<Events>,
@@ -49,7 +49,8 @@ impl EventStates {
         self.states.push_reserved(Events::new(since, kato));
     }
 
-    /// Does a command of the admin queue of the controller at a place, counted from 0 (`admit_admin`).
+    /// Does a command of the admin queue of the controller at a place, counted from 0
+    /// (`admit_admin`).
     pub fn admit<L: Look>(
         &mut self,
         at: usize,

@@ -11,7 +11,7 @@ use Rattle.async_events.specs.Laws.{IsQuiet, AreQuiet, KeepsList, AllKeepList}
 use Rattle.async_events.proofs.Folds.{shows_fold, stamps_list}
 use Rattle.change_stamps.specs.Stamps.{Stamps, place_of, space_stamp, ana_stamp, next_serial, stamped_at, space_place, stamped, stamps_after, untouched, no_stamps}
 use Rattle.notice_laws.specs.Marks.{nsid_for, is_at, marks_of, seen_by, after_changes, AreSound, SpaceInRange, PlaceInRange, IsInRange, AreInRange}
-use Rattle.notice_laws.specs.Laws.{StampsAreMarks, StartIsSound, StampsStaySound, NoticesAreTheFold, ListIsTheFold}
+use Rattle.notice_laws.specs.Laws.{RaiseIsAMark, StampsAreMarks, StartIsSound, StampsStaySound, NoticesAreTheFold, ListIsTheFold}
 
 -- ---- tests on numbers
 differ : (a b : ℕ) → (a == b) ≡ false → a ≡ b → ⊥
@@ -148,6 +148,14 @@ marks_on s c sub port false sound r room = refl
 
 pub stamps_are_marks : StampsAreMarks
 stamps_are_marks s c sub port sound r room = marks_on s c sub port c.published sound r room
+
+pub raise_is_a_mark : RaiseIsAMark
+unfolding space_stamp ana_stamp
+raise_is_a_mark s sub port room = λ i. record {
+  serial = next_is s room i;
+  ns = λ n. cond (nat_le n MAX_NSID) (slice_index s.spaces (place_of sub n)) 0;
+  ana = max (slice_index s.subs sub) (slice_index s.ports port);
+}
 
 -- ---- stamps stay sound
 zeros_at : (n at : ℕ) → slice_index (untouched n) at ≡ 0

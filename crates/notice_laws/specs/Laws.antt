@@ -1,11 +1,16 @@
 -- What the laws say.
-use Rattle.std.specs.Prelude.{◌≡◌, ◌≤◌, ◌<◌, ◌+◌, ◌^◌, ◌-◌, ℕ, List, length, nat_lt}
+use Rattle.std.specs.Prelude.{◌≡◌, ◌≤◌, ◌<◌, ◌+◌, ◌^◌, ◌-◌, ℕ, false, List, length, None, nat_lt}
 use Rattle.sqe_cqe.specs.declared.rows.TheConstants.{MAX_NSID}
+use Rattle.configfs_tree.specs.declared.configuration.Configuration.{Configuration}
 use Rattle.configfs_tree.specs.declared.edits.Change.{Change}
+use Rattle.configfs_tree.specs.Outcome.{Accepts}
+use Rattle.configfs_tree.specs.Standing.{IsStanding}
+use Rattle.link_rules.specs.declared.edits.Edit.{Edit}
+use Rattle.link_rules.specs.Table.{edit_outcome}
 use Rattle.async_events.specs.declared.events.Events.{Events}
-use Rattle.async_events.specs.Notices.{notices_after, listed_after}
+use Rattle.async_events.specs.Notices.{Published, notices_after, listed_after}
 use Rattle.async_events.specs.Stamps.{stamped as seen_stamped, shown}
-use Rattle.change_stamps.specs.Stamps.{Stamps, no_stamps, stamps_after}
+use Rattle.change_stamps.specs.Stamps.{Stamps, no_stamps, raised, stamps_after}
 use Rattle.notice_laws.specs.Marks.{mark_of, marks_of, seen_by, after_changes, AreSound, IsInRange, AreInRange}
 
 -- a change stamps what its mark stamps
@@ -13,6 +18,11 @@ abbrev pub StampsAreMarks : Type 0
 StampsAreMarks = (s : Stamps) (c : Change) (sub port : ℕ) → AreSound s → IsInRange c
     → s.serial < 2 ^ 32 - 1
     → seen_by sub port (stamps_after c s) ≡ seen_stamped (seen_by sub port s) (mark_of sub port c)
+
+-- a change of the controllers alone is a mark that changes nothing but the serial
+abbrev pub RaiseIsAMark : Type 0
+RaiseIsAMark = (s : Stamps) (sub port : ℕ) → s.serial < 2 ^ 32 - 1
+    → seen_by sub port (raised s) ≡ seen_stamped (seen_by sub port s) (Published None false)
 
 abbrev pub StartIsSound : Type 0
 StartIsSound = AreSound no_stamps
@@ -34,3 +44,8 @@ ListIsTheFold = (s : Stamps) (changes : List Change) (sub port n cleared : ℕ) 
     → AreInRange changes → s.serial + length changes < 2 ^ 32 → cleared ≤ s.serial
     → nat_lt cleared ((seen_by sub port (after_changes s changes)).ns n)
     ≡ listed_after n (nat_lt cleared ((seen_by sub port s).ns n)) (marks_of sub port changes)
+
+-- what an accepted edit names is in range: a namespace that stands, and positions of the tables
+abbrev pub EditsNameInRange : Type 0
+EditsNameInRange = (t : Configuration) (e : Edit) (u : Configuration) (c : Change) → IsStanding t
+    → edit_outcome t e ≡ Accepts u c → IsInRange c

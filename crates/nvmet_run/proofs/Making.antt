@@ -1,6 +1,5 @@
 -- A run of what was read, and its prints.
 use Rattle.std.proofs.Common.{◌≡◌, ◌≤◌, ℕ, zero, suc, ◌+◌, ◌-◌, List, [], ◌∷◌, ◌++◌, length, map, Result, Ok, Err, refl, sym, ◌∙◌, arith}
-use Rattle.std.specs.Prelude.{All}
 use Rattle.plan_files.specs.declared.items.Plan.{Plan}
 use Rattle.journal_text.specs.Text.{journal_text}
 use Rattle.run_transcript.specs.declared.capsule_files.CapsuleFile.{CapsuleFile}
@@ -11,11 +10,10 @@ use Rattle.run_outcomes.specs.Outsides.{Told}
 use Rattle.run_inputs.specs.Gives.{PlanBegins}
 use Rattle.run_inputs.specs.Known.{Known, begun}
 use Rattle.run_inputs.specs.Reading.{ReadsSo, RestWasRead}
-use Rattle.run_inputs.specs.Ready.{IsReady}
 use Rattle.run_serving.specs.declared.output.Output.{Output}
 use Rattle.run_serving.specs.declared.whole.Served.{Served}
 use Rattle.run_serving.specs.Ran.{HoldRecords, IsPrintOf, Ran}
-use Rattle.run_serving.specs.Readiness.{AreServable, IsServable, files_of}
+use Rattle.run_serving.specs.Readiness.{files_of}
 use Rattle.nvmet_run.specs.Made.{IsOf, Makes, MakesPlan}
 use Rattle.nvmet_run.specs.Totals.{SummaryOf}
 
@@ -69,16 +67,6 @@ makes s o script files passed_over written text same_script same_files same_coun
         summary_is = summary_is o r.run passed_over text r.printed r.passed_over_is is_text;
       };
     }
-
--- each file is ready to be served
-pub servable : (files : List CapsuleFile) → All IsReady files → AreServable files
-servable [] all = tt
-servable (f ∷ files) all = (
-  served (all 0 f (omega arith)),
-  servable files (λ k d lt. all (suc k) d (omega (arith, lt))),
-) where
-  served : IsReady f → IsServable f
-  served r = record { whole = r.whole; few = r.few; room = r.room }
 
 -- ---- by the name of the plan
 pub makes_plan : (told : Told) (name : List ℕ) (plan : Plan) (s : Known)

@@ -1,5 +1,5 @@
 // The numbers of a run's summary that are counted queue by queue.
-ghost use Rattle.std.specs.Prelude.{ℕ, ◌+◌, ◌^◌, []};
+ghost use Rattle.std.specs.Prelude.{◌≡◌, ◌≤◌, ℕ, ◌+◌, ◌^◌, []};
 ghost use Rattle.nvmet_run.specs.Totals.{Adds, AreBelow, AreTotals};
 
 use run_serving::Output;
@@ -17,6 +17,15 @@ pub struct Totals {
     pub given: u128,
 }
 
+// One number more.
+fn more(total: u128, n: u64) -> u128
+    requires { total ≤ 2 ^ 127 }
+    ensures value { result ≡ total + n }
+    ensures small { result ≤ total + 2 ^ 64 }
+{
+    total + u128::from(n)
+}
+
 // With the numbers of one queue more. They don't pass 128 bits, since no list has 2^64 queues.
 fn add(t: &Totals, o: &Output) -> Totals
     requires { AreBelow t.now (2 ^ 127) }
@@ -24,13 +33,13 @@ fn add(t: &Totals, o: &Output) -> Totals
     ensures below { (n : ℕ) → AreBelow t.now n → AreBelow result (n + 2 ^ 64) }
 {
     Totals {
-        submitted: t.submitted + u128::from(o.submitted),
-        executed: t.executed + u128::from(o.executed),
-        refused: t.refused + u128::from(o.refused),
-        events: t.events + u128::from(o.events),
-        waiting: t.waiting + u128::from(o.waiting),
-        taken: t.taken + u128::from(o.taken),
-        given: t.given + u128::from(o.given),
+        submitted: more(t.submitted, u64::from(o.submitted)),
+        executed: more(t.executed, u64::from(o.executed)),
+        refused: more(t.refused, u64::from(o.refused)),
+        events: more(t.events, u64::from(o.events)),
+        waiting: more(t.waiting, u64::from(o.waiting)),
+        taken: more(t.taken, o.taken),
+        given: more(t.given, o.given),
     }
 }
 

@@ -1,5 +1,5 @@
 -- What the rounds of all queues come to, queue by queue.
-use Rattle.std.proofs.Common.{◌≡◌, ◌<◌, ◌≤◌, ℕ, ◌+◌, true, false, List, [], ◌∷◌, ◌++◌, length, take, drop, map, None, refl, sym, ap, subst, ◌∙◌, append_assoc, arith}
+use Rattle.std.proofs.Common.{◌≡◌, ◌<◌, ◌≤◌, ℕ, ◌+◌, true, false, List, [], ◌∷◌, ◌++◌, length, take, drop, None, refl, sym, ap, subst, ◌∙◌, append_assoc, arith}
 use Rattle.std.proofs.Math.Seq.{take-append_seam, drop-append_seam}
 use Rattle.std.proofs.lemmas.List.{append-nil, length-append}
 use Rattle.std.proofs.lemmas.List.Concat.{flat_map-cons}
@@ -8,11 +8,11 @@ use Rattle.std.specs.List.Sorted.{IsPermutation}
 use Rattle.std.proofs.lemmas.List.Sorted.{IsPermutation-refl}
 use Rattle.plan_files.specs.Capsules.{Capsule}
 use Rattle.tree_target.specs.Model.{Entry, Target}
-use Rattle.tree_target.specs.Legal.{IsLegal, after}
-use Rattle.run_transcript.specs.Runs.{Placed, Run, IsRising, placed_from, calls_of, target_at, target_after_all}
+use Rattle.tree_target.specs.Legal.{after}
+use Rattle.run_transcript.specs.Runs.{Placed, Run, IsRising, placed_from, calls_of, target_after_all}
 use Rattle.run_transcript.specs.InTurn.{rests}
 use Rattle.run_transcript.specs.Turns.{Progress, nothing_done, progress_of, next_call}
-use Rattle.run_transcript.specs.Served.{ServesFile, ServesQueues, bodies, body_of, body_from, finals, finals_of, finals_from, front_len, fronts}
+use Rattle.run_transcript.specs.Served.{ServesFile, ServesQueues, bodies, body_of, finals, finals_of, front_len, fronts}
 use Rattle.run_serving.specs.Goes.{AnySize, AreNext, EachStands, HasEnded, IsFrontLong, Round, all_of, joined, progress_after}
 use Rattle.run_serving.proofs.Placing.{after-append, length-placed_from, placed_from-append, progress-placed}
 use Rattle.run_serving.proofs.Pieces.{all_append, below_all, body_keeps, body_skips, finals_keep, finals_skip, is_rising, mixed, rises_from, rises_on, serves_piece}
@@ -268,7 +268,10 @@ assemble run queue (file ∷ files) nF nR nP m hF hR hP restF restR restP (f ∷
           (sym (flat_map-cons (λ (list : List Placed). list) ((A ++ B) ++ C) lists
           ∙ ap (λ (x : List Placed). x ++ flat_map (λ (list : List Placed). list) lists)
           (append_assoc A B C)))
-          (rw (placed_from-append nF f (all_of F), placed_from-append nR r (all_of R),
-          placed_from-append nP p (all_of P))
+          (rw (
+            placed_from-append nF f (all_of F),
+            placed_from-append nR r (all_of R),
+            placed_from-append nP p (all_of P),
+          )
           (mixed A B C F' R' P' (flat_map (λ (list : List Placed). list) lists) others.merged));
     }

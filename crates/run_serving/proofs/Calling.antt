@@ -1,17 +1,16 @@
 -- What one call of a queue makes.
-use Rattle.std.proofs.Common.{◌≡◌, ◌≢◌, ℕ, suc, ◌+◌, true, false, List, [], length, sym, refl, subst, eqb}
+use Rattle.std.proofs.Common.{◌≡◌, ℕ, ◌+◌, true, false, List, [], length, subst, eqb}
 use Rattle.sqe_cqe.specs.declared.sqe.Sqe.{Sqe}
-use Rattle.plan_files.specs.Capsules.{Capsule}
 use Rattle.run_records.specs.declared.records.Kind.TheVariants as kinds
 use Rattle.tree_target.specs.declared.calls.Reply.{Reply}
 use Rattle.tree_target.specs.Kept.{Kept, is_admin_in, is_poll_reply}
-use Rattle.tree_target.specs.Model.{Target, Submit, Execute, Poll, Control}
+use Rattle.tree_target.specs.Model.{Submit, Execute, Poll, Control}
 use Rattle.tree_target.specs.Steps.{target_after}
-use Rattle.tree_target.specs.Stands.{StandsFor, Simulates}
-use Rattle.run_transcript.specs.Turns.{Ready, Holding, Through, Progress, after_submit, after_call}
+use Rattle.tree_target.specs.Stands.{Simulates}
+use Rattle.run_transcript.specs.Turns.{Holding, Through, after_submit}
 use Rattle.run_serving.specs.declared.output.Output.{Output}
 use Rattle.run_serving.specs.Prints.{Adds}
-use Rattle.run_serving.specs.Goes.{IsAt, IsPolling, HasPolled, HasTaken, Makes, ServesOne, ServesSubmit, ServesThrough, ServesExecute, ServesPoll, ServesFinal}
+use Rattle.run_serving.specs.Goes.{IsAt, IsPolling, HasPolled, HasTaken, ServesOne, ServesSubmit, ServesThrough, ServesExecute, ServesPoll, ServesFinal}
 use Rattle.run_serving.proofs.More.{counted_submit, counted_execute, counted_poll, counted_control}
 use Rattle.run_serving.proofs.Making.{Calls, makes_one, makes_both, makes_by}
 use Rattle.run_serving.proofs.Nexts.{admin_is, admin_stays, calls_control, calls_submit, calls_execute, calls_poll, calls_final, control_ends, submit_ends, execute_ends, polled_ends, final_ends, settled_through}

@@ -1,5 +1,5 @@
 -- The whole run.
-use Rattle.std.proofs.Common.{◌≡◌, ◌≢◌, ◌<◌, ◌≤◌, ℕ, zero, suc, ◌+◌, Bool, true, false, if◌then◌else◌, List, [], ◌∷◌, ◌++◌, length, map, take, slice_get, Option, Some, None, refl, sym, ap, subst, ◌∙◌, append_assoc, arith}
+use Rattle.std.proofs.Common.{◌≡◌, ◌≢◌, ◌<◌, ◌≤◌, ℕ, ◌+◌, Bool, true, false, if◌then◌else◌, List, [], ◌∷◌, ◌++◌, length, slice_get, Option, Some, None, refl, sym, ap, subst, ◌∙◌, append_assoc, arith}
 use Rattle.std.proofs.lemmas.List.{append-nil, length-append}
 use Rattle.std.proofs.lemmas.List.Concat.{flat_map-cons}
 use Rattle.std.specs.List.{AllByRecursion, flat_map, sum_by}
@@ -25,16 +25,15 @@ use Rattle.tree_target.specs.Legal.{IsLegal, after}
 use Rattle.tree_target.specs.Stands.{StandsFor}
 use Rattle.run_transcript.specs.declared.capsule_files.CapsuleFile.{CapsuleFile}
 use Rattle.run_transcript.specs.declared.scripts.ScriptEdit.{ScriptEdit}
-use Rattle.run_transcript.specs.InTurn.{IsInTurn, in_turn, rests}
-use Rattle.run_transcript.specs.Printing.{responses}
-use Rattle.run_transcript.specs.Runs.{Placed, Run, IsLegalRun, IsOrdered, IsRising, placed_from, calls_of, callers, target_at, target_after_all}
-use Rattle.run_transcript.specs.Served.{AreFrom, ArePlacedBefore, IsServed, ServesQueues, ServesScript, bodies, finals, fronts}
-use Rattle.run_transcript.specs.Turns.{Disabled, Editing, Progress, after_entry, edit_after, edit_on, editing_after, next_edit, nothing_done, nothing_edited}
+use Rattle.run_transcript.specs.InTurn.{IsInTurn}
+use Rattle.run_transcript.specs.Runs.{Placed, Run, IsLegalRun, IsOrdered, placed_from, calls_of, target_after_all}
+use Rattle.run_transcript.specs.Served.{AreFrom, IsServed, ServesScript, bodies, finals}
+use Rattle.run_transcript.specs.Turns.{Disabled, Editing, Progress, after_entry, edit_after, edit_on, editing_after, next_edit, nothing_edited}
 use Rattle.run_serving.specs.declared.output.Output.{Output}
 use Rattle.run_serving.specs.Prints.{Prints}
 use Rattle.run_serving.specs.Goes.{AnySize, AreNext, EachStands, HasEnded, HasFront, HasNothing, IsFrontLong, PrintEach, Round, all_of, joined}
 use Rattle.run_serving.specs.Editor.{AreEdits, HasMade, editing_after_all}
-use Rattle.run_serving.specs.Readiness.{capsules_of, files_of}
+use Rattle.run_serving.specs.Readiness.{files_of}
 use Rattle.run_serving.specs.Fresh.{AreFresh, empties}
 use Rattle.run_serving.specs.InTurn.{ServesInTurn}
 use Rattle.run_serving.specs.Lines.{Journals}
@@ -264,8 +263,14 @@ module _ (leaves : QueuesLeaveDesk) (plan : Plan) (passed_over : ℕ) (start : T
       assemble the_run 1 files 0 n2 n3 n3 [] (all_of F ++ E) ((all_of F ++ E) ++ all_of R)
       (E ++ (all_of R ++ all_of P)) (all_of P) [] F R P refl
       (omega (arith, len1, len2, length-append (all_of F) E))
-      (omega (arith, len1, len2, len3, length-append (all_of F) E,
-      length-append (all_of F ++ E) (all_of R)))
+      (omega (
+        arith,
+        len1,
+        len2,
+        len3,
+        length-append (all_of F) E,
+        length-append (all_of F ++ E) (all_of R),
+      ))
       refl (sym (append_assoc (all_of F) E (all_of R ++ all_of P)))
       (history_is ∙ ap (λ (x : List Entry). ((all_of F ++ E) ++ all_of R) ++ x)
       (sym (append-nil (all_of P))))
@@ -395,7 +400,7 @@ sum_is f g each (o ∷ os) (l ∷ lists) a =
     let others : sum_by f os ≡ sum_by g (flat_map (λ (list : List Placed). list) lists) =
     sum_is f g each os lists a.1 in
     let more : sum_by g (flat_map (λ (list : List Placed). list) (l ∷ lists))
-        ≡ sum_by g l + sum_by g (flat_map (λ (list : List Placed). list) lists) =
+    ≡ sum_by g l + sum_by g (flat_map (λ (list : List Placed). list) lists) =
     ap (sum_by g) (flat_map-cons (λ (list : List Placed). list) l lists)
     ∙ sum_by-append g l (flat_map (λ (list : List Placed). list) lists) in
     omega (arith, sum-cons f o os, one, others, more)

@@ -1,5 +1,5 @@
 -- The capsules of a file, one by one.
-use Rattle.std.proofs.Common.{◌≡◌, ◌≢◌, ◌≤◌, ◌<◌, ℕ, zero, suc, ◌+◌, ◌*◌, true, false, eqb, List, [], ◌∷◌, ◌++◌, length, get_or, take, drop, slice_get, Some, refl, sym, ap, subst, ◌∙◌, arith}
+use Rattle.std.proofs.Common.{◌≡◌, ◌≢◌, ◌≤◌, ◌<◌, ℕ, zero, suc, ◌+◌, true, false, eqb, List, [], ◌∷◌, length, get_or, take, drop, slice_get, Some, refl, sym, ap, subst, ◌∙◌, arith}
 use Rattle.std.proofs.Math.Seq.{drop-cons}
 use Rattle.std.proofs.lemmas.List.{length-map}
 use Rattle.std.specs.List.{sum_by}
@@ -121,7 +121,7 @@ pub serves_more : (queue : ℕ) (bytes : List ℕ) (cs : List code.Capsule) (n :
     → Makes false queue (capsules_in bytes cs) Pre k o n0 (HasTaken (n + 1)) k2 o2 n3
 serves_more queue bytes cs n d payload Pre k k1 k2 o o1 o2 n0 n1 n2 n3 lt is taken place a b =
     let one : slice_get (capsules_in bytes cs) n
-        ≡ Some (record { entry = d.sqe; payload = payload }) =
+    ≡ Some (record { entry = d.sqe; payload = payload }) =
     capsule-at bytes cs n d lt
     ∙ ap (λ (c : code.Capsule). Some (capsule_in bytes c)) (sym is)
     ∙ ap (λ (p : List ℕ). let c : Capsule = record { entry = d.sqe; payload = p } in Some c)

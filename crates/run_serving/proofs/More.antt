@@ -86,8 +86,8 @@ responses-push p (y ∷ list) x =
     let n = taken-after p y.entry.call y.entry.reply in
     let q : Progress = after_entry p y.entry in
     let e : responses_from (taken_after p.taken y.entry.call) (list ++ x ∷ [])
-        ≡ responses_from (taken_after p.taken y.entry.call) list
-        ++ entry_bytes (progress_from q list).taken x =
+    ≡ responses_from (taken_after p.taken y.entry.call) list
+    ++ entry_bytes (progress_from q list).taken x =
     (rw n at (responses-push q list x)) in
     ap (λ (r : List ℕ). entry_bytes p.taken y ++ r) e
     ∙ sym (append_assoc (entry_bytes p.taken y)

@@ -1,5 +1,5 @@
 -- What the editor's calls make, put together.
-use Rattle.std.proofs.Common.{◌≡◌, ◌<◌, ℕ, zero, suc, ◌+◌, get_or, ◌&&◌, not, Bool, true, false, if◌then◌else◌, List, [], ◌∷◌, ◌++◌, length, find, Option, Some, None, slice_get, refl, sym, ap, subst, ◌∙◌, append_assoc, arith, eqb}
+use Rattle.std.proofs.Common.{◌≡◌, ◌<◌, ℕ, zero, suc, ◌+◌, get_or, ◌&&◌, Bool, true, false, if◌then◌else◌, List, [], ◌∷◌, ◌++◌, length, find, Option, Some, None, slice_get, refl, sym, ap, subst, ◌∙◌, append_assoc, arith, eqb}
 use Rattle.std.proofs.lemmas.List.{append-nil, length-append}
 use Rattle.std.specs.List.{sum_by}
 use Rattle.std.proofs.lemmas.List.Sums.{sum_by-append}
@@ -22,10 +22,10 @@ use Rattle.run_transcript.specs.declared.scripts.ScriptEdit.{ScriptEdit}
 use Rattle.run_transcript.specs.Runs.{Placed, placed_from, calls_of}
 use Rattle.run_transcript.specs.Printing.{journal_line, journal_lines, line_of_call}
 use Rattle.run_transcript.specs.Sums.{accepted_count, errno_count, drain_count}
-use Rattle.run_transcript.specs.Turns.{Editing, Disabled, editing_after, editing_after_call, edit_after, edit_on, next_edit, disabled_on}
+use Rattle.run_transcript.specs.Turns.{Editing, editing_after, editing_after_call, edit_after, edit_on, next_edit, disabled_on}
 use Rattle.run_serving.specs.declared.editing.Edited.{Edited}
 use Rattle.run_serving.specs.Lines.{Journals, AddsLines}
-use Rattle.run_serving.specs.Editor.{AreEdits, GoesEdits, HasEdited, HasMade, MakesEdits, ServesEdit, editing_after_all}
+use Rattle.run_serving.specs.Editor.{AreEdits, HasEdited, HasMade, MakesEdits, ServesEdit, editing_after_all}
 use Rattle.run_serving.proofs.Placing.{after-append, IsLegal-append, placed_from-append}
 
 -- ---- one more line

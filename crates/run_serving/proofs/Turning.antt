@@ -1,22 +1,21 @@
 -- Queues one after another.
-use Rattle.std.proofs.Common.{◌≡◌, ◌≢◌, ◌≤◌, ◌<◌, ◌⊎◌, ℕ, suc, ◌+◌, ◌-◌, Bool, get_or, set, take, drop, true, false, if◌then◌else◌, eqb, List, [], ◌∷◌, ◌++◌, length, slice_get, Some, None, Option, refl, sym, ap, subst, ◌∙◌, append_assoc, arith}
+use Rattle.std.proofs.Common.{◌≡◌, ◌≢◌, ◌≤◌, ◌⊎◌, ℕ, suc, ◌+◌, ◌-◌, Bool, get_or, set, take, drop, true, false, if◌then◌else◌, eqb, List, [], ◌∷◌, ◌++◌, length, slice_get, Some, None, Option, refl, sym, ap, subst, ◌∙◌, arith}
 use Rattle.std.proofs.lemmas.List.{append-nil, length-append, take_all, drop_all}
 use borrow.Rule.Slice.PartMut.{put_mid}
 use Rattle.run_transcript.specs.declared.capsule_files.CapsuleFile.{CapsuleFile}
 use Rattle.run_serving.specs.Readiness.{capsules_of, files_of}
 use Rattle.plan_files.specs.Capsules.{Capsule}
 use Rattle.tree_target.specs.Kept.{Kept}
-use Rattle.tree_target.specs.Model.{Call, Submit, Execute, Poll, Control, Entry, Target, Binding, caller_of, binding_at, bound_of}
+use Rattle.tree_target.specs.Model.{Call, Submit, Control, Entry, Target, Binding, caller_of, binding_at, bound_of}
 use Rattle.tree_target.specs.Steps.{target_after}
 use Rattle.tree_target.specs.Held.{BindingsAreOwn}
 use Rattle.tree_target.specs.Legal.{after}
 use Rattle.tree_target.specs.Stands.{StandsFor}
 use Rattle.run_transcript.specs.Runs.{Placed, placed_from, calls_of}
-use Rattle.run_transcript.specs.Turns.{Stage, Ready, Holding, Through, Ended, Progress, nothing_done, after_entry, progress_of, first_call, next_by, next_call, next_capsule, execute_of, poll_where, is_admin_at, is_admin_bound}
+use Rattle.run_transcript.specs.Turns.{Stage, Ready, Holding, Through, Ended, Progress, nothing_done, after_entry, progress_of, next_by, next_call, next_capsule, execute_of, poll_where, is_admin_at, is_admin_bound}
 use Rattle.run_transcript.specs.Served.{front_len}
 use Rattle.run_serving.specs.declared.output.Output.{Output}
-use Rattle.run_serving.specs.Prints.{Prints}
-use Rattle.run_serving.specs.Goes.{AreNext, EachStands, GoesRound, HasAll, HasEnded, HasFront, HasNothing, IsSettled, Makes, MakesRound, PrintEach, Round, all_of, joined, progress_after}
+use Rattle.run_serving.specs.Goes.{AreNext, EachStands, HasAll, HasEnded, HasFront, HasNothing, IsSettled, Makes, MakesRound, PrintEach, all_of, joined, progress_after}
 use Rattle.run_serving.proofs.Placing.{after-append, progress-placed}
 
 -- ---- a queue's next call is its own
@@ -144,17 +143,19 @@ round_cons own Size final queue file files Pre Post before_stays after_stays k k
     let same : after t (calls_of (x.group ++ all_of y.groups)) ≡ v =
     after-append t x.group (all_of y.groups) in
     let longer : progress_of (list ++ placed_from n x.group) ≡ progress_after (progress_of list)
-        x.group = progress-placed nothing_done list n x.group in
+    x.group = progress-placed nothing_done list n x.group in
     record {
       groups = x.group ∷ y.groups;
       round = (x.legal, x.turns, size (length x.group) x.count, y.round);
       stands = subst (λ (r : Target). StandsFor k2 r) (sym same) y.stands;
-      prints = (x.prints, subst (λ (m : ℕ). PrintEach os2 (joined m lists y.groups)) x.count
-          y.prints);
+      prints = (
+        x.prints,
+        subst (λ (m : ℕ). PrintEach os2 (joined m lists y.groups)) x.count
+            y.prints,
+      );
       count = omega (arith, y.count, x.count, length-append x.group (all_of y.groups));
       post = subst (λ (r : Target). EachStands Post r queue (file ∷ files)
-          ((list ++ placed_from n x.group) ∷ joined (n + length x.group) lists y.groups)) (sym same)
-          (
+          ((list ++ placed_from n x.group) ∷ joined (n + length x.group) lists y.groups)) (sym same) (
             subst (λ (p : Progress). Post v queue file p) (sym longer)
                 (after_stays u v queue file (progress_after (progress_of list) x.group)
                 (y.keeps queue (omega arith)) x.post),

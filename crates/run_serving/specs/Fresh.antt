@@ -1,5 +1,5 @@
 -- Outputs at the beginning of a run.
-use Rattle.std.specs.Prelude.{ℕ, List, [], map}
+use Rattle.std.specs.Prelude.{List, [], map}
 use Rattle.run_transcript.specs.declared.capsule_files.CapsuleFile.{CapsuleFile}
 use Rattle.run_transcript.specs.Runs.{Placed}
 use Rattle.run_serving.specs.declared.output.Output.{Output}

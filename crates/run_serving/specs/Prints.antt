@@ -1,6 +1,6 @@
 -- What an output holds of a queue's list.
 use Rattle.std.specs.Prelude.{◌≡◌, ℕ, ◌+◌, List, length}
-use Rattle.mem_bdev.specs.Texts.{Text, appended}
+use Rattle.mem_bdev.specs.Texts.{appended}
 use Rattle.run_records.specs.Records.{record_bytes}
 use Rattle.run_records.specs.declared.records.Kind.{Kind}
 use Rattle.tree_target.specs.declared.calls.Reply.{Reply}

@@ -1,8 +1,7 @@
 -- The run of which an outcome is the print.
-use Rattle.std.specs.Prelude.{◌≡◌, ℕ, List, [], ◌∷◌, length, map}
+use Rattle.std.specs.Prelude.{◌≡◌, ℕ, List, [], ◌∷◌, length}
 use Rattle.std.specs.List.{sum_by}
 use Rattle.plan_files.specs.declared.items.Plan.{Plan}
-use Rattle.plan_files.specs.Capsules.{Capsule}
 use Rattle.tree_target.specs.Model.{Target}
 use Rattle.run_transcript.specs.declared.capsule_files.CapsuleFile.{CapsuleFile}
 use Rattle.run_transcript.specs.declared.scripts.ScriptEdit.{ScriptEdit}

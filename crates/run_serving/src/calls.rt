@@ -228,7 +228,10 @@ fn submit_admin_into(
     to.put(&[0; HEAD_BYTES]);
     let reply = target.submit_admin(queue, number, entry, to);
     let given = (to.len() - at - HEAD_BYTES) as u32;
-    to.write_at(at, &write_head(&head(place, Kind::Submit, number, &reply, given)));
+    to.write_at(
+        at,
+        &write_head(&head(place, Kind::Submit, number, &reply, given)),
+    );
     (reply, given)
 }
 

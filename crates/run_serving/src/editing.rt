@@ -40,7 +40,12 @@ impl Edited {
     }
 
     /// Adds the line of an edit at its place, and counts it.
-    pub(crate) fn add_edit(&mut self, place: u32, line: u32, reply: &Reply) -> Result<(), AllocError>
+    pub(crate) fn add_edit(
+        &mut self,
+        place: u32,
+        line: u32,
+        reply: &Reply,
+    ) -> Result<(), AllocError>
         requires { AreFew self.old 4294967294 }
         ensures adds { IfOk result (λ _. AddsLines self.old self.new (edit_line place line reply.now)
             (accepted_count reply.now) (errno_count reply.now) 0) }
@@ -64,8 +69,9 @@ impl Edited {
                 self.refused += 1;
                 Ok(())
             }
-            Reply::Held | Reply::Answered(_) | Reply::Waiting | Reply::NoEvent | Reply::Ended =>
-                Ok(()),
+            Reply::Held | Reply::Answered(_) | Reply::Waiting | Reply::NoEvent | Reply::Ended => Ok(
+                (),
+            ),
         }
     }
 

@@ -9,8 +9,8 @@ ghost use Rattle.run_transcript.specs.Served.{front_len};
 ghost use Rattle.run_serving.specs.Goes.{HasAll, HasEnded, HasFront, HasNothing, Makes};
 ghost use Rattle.run_serving.specs.Readiness.{IsReadyAt, IsServable, all_capsules, capsules_of, front_of, nothing_of, opcode_at};
 
-use crate::output::Output;
 use crate::calls::{control_one, poll_one, serve_one};
+use crate::output::Output;
 use plan_files::Capsule;
 use run_transcript::CapsuleFile;
 use sqe_cqe::FABRICS;
@@ -71,7 +71,15 @@ pub(crate) fn serve_front(
         let capsule = &file.capsules[number];
         let payload = payload_of(&file.bytes, capsule);
         let place = place + number as u32;
-        control_one(target, queue, number as u32, &capsule.sqe, payload, place, output);
+        control_one(
+            target,
+            queue,
+            number as u32,
+            &capsule.sqe,
+            payload,
+            place,
+            output,
+        );
     }
     place + front as u32
 }
@@ -101,7 +109,15 @@ pub(crate) fn serve_rest(
     for number in front..file.capsules.len() {
         let capsule = &file.capsules[number];
         let payload = payload_of(&file.bytes, capsule);
-        next = serve_one(target, queue, number as u32, &capsule.sqe, payload, next, output);
+        next = serve_one(
+            target,
+            queue,
+            number as u32,
+            &capsule.sqe,
+            payload,
+            next,
+            output,
+        );
     }
     next
 }

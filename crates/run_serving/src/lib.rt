@@ -9,13 +9,13 @@
 //! fabrics-cmd.c, admin-cmd.c).
 #![tactic(auto)]
 
+mod calls;
 mod editing;
 mod files;
 mod output;
 mod rounds;
 #[cfg(test)]
 mod tests;
-mod calls;
 mod whole;
 
 pub use output::Output;

@@ -11,9 +11,9 @@ use std::alloc::{AllocError, Global};
 use tree_target::Reply;
 
 /// What a queue's calls have given so far: the records, and the numbers of the summary. `calls` are
-/// all of them; `refused` are completions with another status than success, `events` those of
-/// polls, `waiting` event requests that were left waiting. Data are counted in bytes: `taken` from
-/// the host by executes, `given` to it.
+/// all of them; `refused` are completions with another status than success, those of polls left out;
+/// `events` are completions of polls, `waiting` the event requests that had to wait. Data are
+/// counted in bytes: `taken` from the host by executes, `given` to it.
 #[derive(Drop)]
 pub struct Output {
     pub records: Buffer,

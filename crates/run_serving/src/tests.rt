@@ -1,4 +1,6 @@
 // Whole runs: the journals of scripts, and the records of queues that aren't connected.
+ghost use Rattle.std.specs.Prelude.{◌≡◌, length, ℕ};
+ghost use Rattle.tree_target.specs.Kept.{IsIdle};
 ghost use Rattle.run_serving.specs.Readiness.{IsServable};
 
 use crate::*;
@@ -15,7 +17,10 @@ use std::test::Fail;
 use tree_target::Target;
 
 // A target over one disk with these queues, which aren't connected, and no configuration.
-fn empty(rt: &impl Abort, alloc: Global, ports: &[u16]) -> Target {
+fn empty(rt: &impl Abort, alloc: Global, ports: &[u16]) -> Target
+    ensures queues { length result.bindings ≡ length ports.now }
+    ensures idle { (q : ℕ) → IsIdle result q }
+{
     let line = DiskLine {
         path: Name::copied(alloc, b"/dev/ram0").expect(rt, "memory"),
         shift: 9,

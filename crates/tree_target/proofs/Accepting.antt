@@ -1,5 +1,5 @@
--- What an accepted Connect binds its queue to: by the checks, the subsystem that its data name and the
--- queue's own port, at their positions.
+-- What an accepted Connect binds its queue to: by the checks, the subsystem that its data name and
+-- the queue's own port, at their positions.
 use Rattle.std.proofs.Common.{◌≡◌, ℕ, zero, suc, ◌<◌, ◌%◌, ◌/◌, ◌^◌, ◌+◌, ◌==◌, not, ◌||◌, Bool, true, false, cond, List, [], ◌∷◌, length, Option, Some, None, refl, sym, ap, subst, ◌∙◌}
 use Rattle.std.specs.List.{AllByRecursion}
 use Rattle.std.specs.Option.{unwrap_or}

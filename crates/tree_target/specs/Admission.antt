@@ -74,8 +74,8 @@ abbrev pub admin_events : Target → (View → Events → Events) → ℕ → Bo
 admin_events t f port b = events_with (f (view_at t port b)) b.controller t.events
     (numbered t.controllers b.controller) (events_numbered t.events b.controller)
 
--- ---- QID 0 is the admin queue. On another queue the checks are those of I/O commands over what the
--- queue sees
+-- ---- QID 0 is the admin queue. On another queue the checks are those of I/O commands over what
+-- the queue sees
 abbrev pub of_qid : Target → Sqe → ℕ → Bound → ℕ → Admission
 of_qid t e port b zero = admin_admission t e port b
 of_qid t e port b (suc q) = of_admit (io_admission (view_at t port b) e)
@@ -113,7 +113,8 @@ events_submitted t queue e =
 unfoldable pub events_polled : Target → ℕ → List Events
 events_polled t queue = events_by_binding t polled (binding_at t queue)
 
--- the event of a controller: the command identifier of the request that it completes, and its result
+-- the event of a controller: the command identifier of the request that it completes, and its
+-- result
 abbrev pub event_with : View → Option ControllerRow → Option Events → Option (ℕ × ℕ)
 event_with v None k = None
 event_with v (Some c) None = None

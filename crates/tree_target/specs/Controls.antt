@@ -1,6 +1,6 @@
--- What a fabrics command does to the target. Its checks, and what they come to, are those of Connect
--- and of properties, which go by positions: so names are placed for them, and what an accepted
--- Connect binds is named again.
+-- What a fabrics command does to the target. Its checks, and what they come to, are those of
+-- Connect and of properties, which go by positions: so names are placed for them, and what an
+-- accepted Connect binds is named again.
 use Rattle.std.specs.Prelude.{ℕ, zero, suc, Bool, false, if◌then◌else◌, List, [], ◌∷◌, ◌++◌, Option, Some, None, slice_set}
 use Rattle.std.specs.Option.{unwrap_or}
 use Rattle.std.specs.FinMap as map

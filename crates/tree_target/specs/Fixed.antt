@@ -49,8 +49,8 @@ is_published t (Control queue number e payload) = publishes t e payload (binding
 is_published t (AnEdit line e) = is_published_edit (outcome t.tree e)
 is_published t (DrainEnd line sub nsid) = false
 
--- the calls that get their place from the editor: edits, ends of drains, and fabrics commands, whatever
--- queue brings them
+-- the calls that get their place from the editor: edits, ends of drains, and fabrics commands,
+-- whatever queue brings them
 abbrev pub is_editors : Call → Bool
 is_editors (Submit queue number e) = false
 is_editors (Execute queue number payload) = false

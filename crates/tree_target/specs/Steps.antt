@@ -166,9 +166,10 @@ after_edit t (Accepts u change) = record t { tree = u; stamps = stamps_after cha
 
 -- the target after a call, but for its history
 unfoldable pub changed : Target → Call → Target
-changed t (Submit queue number e) = record (after_submit t queue number e.cid (admission t queue e)) {
-  events = events_submitted t queue e;
-}
+changed t (Submit queue number e) =
+    record (after_submit t queue number e.cid (admission t queue e)) {
+      events = events_submitted t queue e;
+    }
 changed t (Execute queue number payload) = after_execute t queue number payload
     (held_at t queue number)
 changed t (Poll queue) = record t { events = events_polled t queue }

@@ -11,12 +11,13 @@ pub fn lawful_calls_are_legal()
     ensures { LawfulCallsAreLegal }
 {}
 
-/// A call that isn't published leaves settings and controllers.
+/// A call that isn't published leaves settings, controllers and the serials of last changes.
 pub fn unpublished_leave_fixed()
     ensures { UnpublishedLeaveFixed }
 {}
 
-/// A queue's own call leaves the whole tree, holders too, and the controllers.
+/// A submit, an execute and a poll leave the whole tree, holders too, the controllers and the
+/// serials of last changes. Fabrics commands get their places from the editor.
 pub fn queues_leave_desk()
     ensures { QueuesLeaveDesk }
 {}

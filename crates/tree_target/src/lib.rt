@@ -1,11 +1,12 @@
 //! The sequential target over the whole configuration tree: one thread, one call at a time.
 //!
 //! Its model is one plain record: the configuration with the holders of disks, the controllers, the
-//! blocks of each disk, the bindings of queues, the held commands, the waiting event requests and
-//! the history. Its step (where a call is lawful, what it replies, the bytes that the host gets,
-//! the target after it) is a function of the record and the call alone. Each call of the program's
-//! `Target` replies what the model replies and stands for the model's next state, from every state
-//! that it stood for before. After Linux nvmet (core.c, configfs.c, io-cmd-bdev.c).
+//! blocks of each disk, the bindings of queues, the held commands, the events of controllers, the
+//! serials of last changes and the history. Its step (where a call is lawful, what it replies, the
+//! bytes that the host gets, the target after it) is a function of the record and the call alone.
+//! Each call of the program's `Target` replies what the model replies and stands for the model's
+//! next state, from every state that it stood for before. After Linux nvmet (core.c, configfs.c,
+//! io-cmd-bdev.c).
 #![tactic(auto)]
 
 mod admin;

@@ -82,8 +82,8 @@ pub struct TreeLook<'a> {
 impl<'a> TreeLook<'a> {
     ghost use Rattle.tree_target.specs.Looked.{tree_answers};
 
-    /// A look at this configuration. The disks are those of the tree, in their order, and the stamps
-    /// those of its last changes.
+    /// A look at this configuration. The disks are those of the tree, in their order, and the
+    /// stamps those of its last changes.
     pub fn new(
         tree: &'a Tree,
         controllers: &'a Controllers,

@@ -46,10 +46,10 @@ impl Target {
         admit_io(&bound, e, &mut look)
     }
 
-    /// Submits a command of a queue that isn't an admin queue (`is_admin` tells): it is answered with
-    /// the status of the first check that fails, or held. `number` is the capsule's number in its file, from 0. The queue's last command was
-    /// executed. A command that is held asks for as many bytes of data, both ways, as its entry
-    /// names. Takes no memory.
+    /// Submits a command of a queue that isn't an admin queue (`is_admin` tells): it is answered
+    /// with the status of the first check that fails, or held. `number` is the capsule's number in
+    /// its file, from 0. The queue's last command was executed. A command that is held asks for as
+    /// many bytes of data, both ways, as its entry names. Takes no memory.
     pub fn submit(&mut self, queue: u32, number: u32, e: &Sqe) -> Reply
         requires queue { HasQueue self.old queue }
         requires idle { IsIdle self.old queue }
@@ -170,9 +170,9 @@ impl Target {
         event_reply(event, bound.qid)
     }
 
-    /// A fabrics command (opcode 7Fh) on a queue: Connect, Property Get or Property Set, with as many
-    /// bytes of data as a Connect's SGL length says. The first check that fails answers with its
-    /// status and result, and changes nothing (`fabrics_connect::control`). The queue's last
+    /// A fabrics command (opcode 7Fh) on a queue: Connect, Property Get or Property Set, with as
+    /// many bytes of data as a Connect's SGL length says. The first check that fails answers with
+    /// its status and result, and changes nothing (`fabrics_connect::control`). The queue's last
     /// command was executed. Takes no memory.
     pub fn control(&mut self, queue: u32, number: u32, e: &Sqe, payload: &[u8]) -> Reply
         requires opcode { e.now.opcode ≡ FABRICS }

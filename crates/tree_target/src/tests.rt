@@ -382,8 +382,8 @@ fn a_drain_ends_after_the_last_held_command(rt: HostRuntime) -> Result<(), Fail>
     Ok(())
 }
 
-// Each is refused, and names the first parameter that isn't valid: the subsystem, the controller ID,
-// the size of the queue.
+// Each is refused, and names the first parameter that isn't valid: the subsystem, the controller
+// ID, the size of the queue.
 const REFUSED: [Ask; 3] = [
     Ask {
         queue: 3,

@@ -1,6 +1,5 @@
-use Rattle.std.proofs.Common.{◌≡◌, ◌≤◌, ℕ, arith, subst, sym, ap, ◌∙◌}
+use Rattle.std.proofs.Common.{◌≤◌, ℕ, arith, subst, sym, ap, ◌∙◌}
 use Rattle.tree_target.specs.declared.calls.Reply.{Reply}
-use Rattle.tree_target.specs.declared.calls.Reply.TheVariants.{Held}
 use Rattle.run_transcript.specs.Turns.{after_submit}
 use Rattle.run_serving.proofs.Calling.{submit_serves, both_serve}
 use Rattle.run_serving.proofs.Nexts.{not_held}

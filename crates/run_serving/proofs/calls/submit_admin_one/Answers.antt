@@ -1,4 +1,4 @@
-use Rattle.std.proofs.Common.{ap, ◌∙◌, refl}
+use Rattle.std.proofs.Common.{◌∙◌, refl}
 use Rattle.run_records.specs.declared.records.Kind.TheVariants as kinds
 use Rattle.run_serving.proofs.More.{counts_more}
 use Rattle.run_serving.proofs.Calling.{makes_submit, through_serves}

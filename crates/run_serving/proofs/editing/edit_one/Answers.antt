@@ -1,4 +1,4 @@
-use Rattle.std.proofs.Common.{◌≡◌, ◌∙◌, ℕ, sym, refl}
+use Rattle.std.proofs.Common.{◌∙◌, ℕ, sym, refl}
 use Rattle.tree_target.specs.Kept.{IsIdle}
 use Rattle.run_serving.proofs.Scripting.{makes_edit, makes_end, may_end_is, serves_plain, serves_closed, serves_ended, idle_along}
 use Rattle.run_serving.proofs.editing.edit_one.Goals as goal

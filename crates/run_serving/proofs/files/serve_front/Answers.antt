@@ -1,6 +1,5 @@
-use Rattle.std.proofs.Common.{◌≡◌, ◌<◌, ◌∙◌, ap, sym, refl, length, arith}
+use Rattle.std.proofs.Common.{◌≡◌, ◌<◌, ◌∙◌, ap, sym, length, arith}
 use Rattle.plan_files.specs.declared.capsules.Capsule as code
-use Rattle.run_serving.proofs.Making.{makes_none}
 use Rattle.run_serving.proofs.Filing.{opcode-get, room_after, serves_more, from_nothing, to_front}
 use Rattle.run_serving.proofs.Spaces.{head_room}
 use Rattle.plan_files.specs.Rooms.{capsule_room}
@@ -13,8 +12,12 @@ control_one-requires-clause-opcode c =
     let d = c.index-capsule.result.now in
     let cs = c.args.file.now.capsules.items in
     ap (λ (x : code.Capsule). x.sqe.opcode) c.index-capsule.ensures
-    ∙ sym (opcode-get cs c.loop-number.number d (omega (arith, c.loop-number-test.true,
-    c.front_len-front.ensures.within, c.deref.ensures.len)))
+    ∙ sym (opcode-get cs c.loop-number.number d (omega (
+      arith,
+      c.loop-number-test.true,
+      c.front_len-front.ensures.within,
+      c.deref.ensures.len,
+    )))
     ∙ rw c.deref.ensures.value at (c.front_len-front.ensures.fabrics c.loop-number.number
     c.loop-number-test.true)
 
@@ -23,8 +26,12 @@ loop-number-preserved c =
     let f = c.args.file.now in
     let d = c.index-capsule.result.now in
     let n = c.loop-number.number in
-    let lt : n < length f.capsules.items = omega (arith, c.loop-number-test.true,
-    c.front_len-front.ensures.within, c.deref.ensures.len) in
+    let lt : n < length f.capsules.items = omega (
+      arith,
+      c.loop-number-test.true,
+      c.front_len-front.ensures.within,
+      c.deref.ensures.len,
+    ) in
     let before = c.loop-number.invariant in
     record {
       idle = c.control_one.ensures.idle;
@@ -47,8 +54,11 @@ returns-clause-serves c =
     let f = c.args.file.now in
     let front : c.front_len-front.result ≡ front_of f =
     rw c.deref.ensures.value at (c.front_len-front.ensures.value f.bytes.items) in
-    let same : c.loop-number.number ≡ c.front_len-front.result = omega (arith,
-    c.loop-number-test.false, c.loop-number.auto.number-end) in
+    let same : c.loop-number.number ≡ c.front_len-front.result = omega (
+      arith,
+      c.loop-number-test.false,
+      c.loop-number.auto.number-end,
+    ) in
     let all = from_nothing _ _ _ _ _ _ _ _ _ (to_front _ _ c.loop-number.number (HasTaken 0) _ _ _ _ _ _ (same ∙ front)
     c.loop-number.invariant.makes) in
     rw same at all

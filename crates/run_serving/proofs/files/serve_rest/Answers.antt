@@ -2,8 +2,7 @@ use Rattle.std.proofs.Common.{◌≡◌, ◌<◌, ◌∙◌, ap, sym, refl, leng
 use Rattle.plan_files.specs.declared.capsules.Capsule as code
 use Rattle.plan_files.specs.Rooms.{capsule_room}
 use Rattle.run_serving.specs.Goes.{HasFront}
-use Rattle.run_serving.specs.Readiness.{front_of}
-use Rattle.run_serving.proofs.Filing.{room_here, room_after, serves_more, from_front, to_end, capsules-len}
+use Rattle.run_serving.proofs.Filing.{room_after, serves_more, to_end, capsules-len}
 use Rattle.run_serving.proofs.files.serve_rest.Goals as goal
 
 pub loop-number-preserved : goal.loop-number-preserved
@@ -11,8 +10,11 @@ loop-number-preserved c =
     let f = c.args.file.now in
     let d = c.index-capsule.result.now in
     let n = c.loop-number.number in
-    let lt : n < length f.capsules.items = omega (arith, c.loop-number-test.true,
-    c.len-number-end.ensures) in
+    let lt : n < length f.capsules.items = omega (
+      arith,
+      c.loop-number-test.true,
+      c.len-number-end.ensures,
+    ) in
     let before = c.loop-number.invariant in
     record {
       idle = c.serve_one-next.ensures.idle;
@@ -33,8 +35,13 @@ loop-number-preserved c =
 pub returns-clause-serves : goal.returns-clause-serves
 returns-clause-serves c =
     let f = c.args.file.now in
-    let same : c.loop-number.number ≡ length f.capsules.items = omega (arith,
-    c.loop-number-test.false, c.loop-number.auto.number-end, c.len-number-end.ensures,
-    c.front_len-front.ensures.within, c.deref.ensures.len) in
+    let same : c.loop-number.number ≡ length f.capsules.items = omega (
+      arith,
+      c.loop-number-test.false,
+      c.loop-number.auto.number-end,
+      c.len-number-end.ensures,
+      c.front_len-front.ensures.within,
+      c.deref.ensures.len,
+    ) in
     to_end _ _ c.loop-number.number HasFront _ _ _ _ _ _
     (same ∙ sym (capsules-len f.bytes.items f.capsules.items)) c.loop-number.invariant.makes

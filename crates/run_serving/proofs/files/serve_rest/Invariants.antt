@@ -1,4 +1,4 @@
-use Rattle.std.proofs.Common.{◌≡◌, ◌≤◌, ℕ, ◌+◌, ◌*◌, ◌-◌, false, length}
+use Rattle.std.proofs.Common.{◌≡◌, ◌≤◌, ℕ, ◌+◌, ◌*◌, false, length}
 use Rattle.tree_target.specs.Kept.{IsIdle}
 use Rattle.run_serving.specs.Goes.{Makes, HasFront, HasTaken}
 use Rattle.run_serving.specs.Readiness.{IsReadyAt, capsules_of}

@@ -1,4 +1,4 @@
-use Rattle.std.proofs.Common.{ℕ, false, arith}
+use Rattle.std.proofs.Common.{false, arith}
 use Rattle.run_serving.specs.Goes.{HasFront, HasNothing, IsFrontLong}
 use Rattle.run_serving.proofs.Turning.{round_here, nothing_stable, front_stable}
 use Rattle.run_serving.proofs.rounds.+serve_fronts.Goals as goal

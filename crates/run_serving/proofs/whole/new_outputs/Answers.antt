@@ -1,7 +1,3 @@
-use Rattle.std.proofs.Common.{sym, subst, List, take}
-use Rattle.run_serving.specs.declared.output.Output.{Output}
-use Rattle.run_serving.specs.Fresh.{AreFresh}
-use Rattle.run_serving.proofs.Concluding.{edits_keep}
 use Rattle.run_serving.proofs.Starting.{fresh_more}
 use Rattle.run_serving.proofs.whole.new_outputs.Goals as goal
 

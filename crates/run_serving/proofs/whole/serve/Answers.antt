@@ -1,4 +1,4 @@
-use Rattle.std.proofs.Common.{◌≡◌, ◌∙◌, length, List, sym, refl, ap, arith, rules}
+use Rattle.std.proofs.Common.{◌∙◌, length, List, refl, ap, rules}
 use Rattle.std.proofs.lemmas.List.{with_items_is}
 use Rattle.run_serving.specs.declared.output.Output.{Output}
 use Rattle.run_serving.specs.Readiness.{nothing_of}

@@ -1,0 +1,5 @@
+pub mod Edges
+pub mod Splices
+pub mod Jobs
+pub mod OnParts
+pub mod Copies

@@ -1,0 +1,4 @@
+pub mod Extents
+pub mod Held
+pub mod Parts
+pub mod Together

@@ -1,0 +1,12 @@
+pub mod Steps
+pub mod Spaces
+pub mod Growing
+pub mod Listed
+pub mod Subsystems
+pub mod Made
+pub mod Alike
+pub mod Counted
+pub mod Ports
+pub mod PortsMade
+pub mod Whole
+pub mod Accepted
