@@ -1,4 +1,5 @@
-"""The program itself, where it is built: the README's ten lines, and examples/statuses with its picture."""
+"""The program itself, where it is built: the README's ten lines, examples/statuses with its picture, and the runs that
+are stored with what they have to give."""
 
 import json
 import os
@@ -19,6 +20,12 @@ def indented(text, first):
     start = next(at for at, row in enumerate(rows) if row.startswith("    " + first))
     end = next(at for at in range(start, len(rows)) if rows[at] and not rows[at].startswith("    "))
     return [row[4:] for row in rows[start:end] if row]
+
+
+def read_bytes(path):
+    """What a file holds."""
+    with open(path, "rb") as file:
+        return file.read()
 
 
 @unittest.skipUnless(os.path.exists(PROGRAM), "nvmetd isn't built yet")
@@ -53,6 +60,18 @@ class Program(unittest.TestCase):
         _, out, _ = run_tool(self.folder.name, "picture", "plan")
         with open(os.path.join(REPOSITORY, "docs", "statuses.svg"), encoding="utf-8") as file:
             self.assertEqual(out, file.read(), "docs/statuses.svg is another picture")
+
+    def test_the_stored_runs(self):
+        for name in ("target", "script"):
+            example = os.path.join(REPOSITORY, "examples", name)
+            folder = os.path.join(self.folder.name, name)
+            shutil.copytree(example, folder)
+            done = subprocess.run([PROGRAM, "run", "plan"], cwd=folder, check=True, stdout=subprocess.PIPE)
+            wanted = os.path.join(folder, "expected")
+            self.assertEqual(read_bytes(os.path.join(wanted, "stdout")), done.stdout, name)
+            for file in sorted(set(os.listdir(wanted)) - {"stdout"}):
+                self.assertEqual(read_bytes(os.path.join(folder, file)), read_bytes(os.path.join(wanted, file)),
+                                 "%s of examples/%s" % (file, name))
 
 
 if __name__ == "__main__":
