@@ -8,8 +8,8 @@ use Rattle.configfs_tree.specs.declared.configuration.Configuration.{Configurati
 use Rattle.configfs_tree.specs.declared.edits.Touched.{Touched}
 use Rattle.configfs_tree.specs.declared.edits.Touched.TheVariants as touches
 use Rattle.configfs_tree.specs.Links.{subsystem_row, SubsystemPositions}
-use Rattle.configfs_tree.specs.Standing.{Placed, placed, placed_in, placed_row}
-use Rattle.configfs_tree.specs.Told.{OneOf, OneRow, space, subsystem_front}
+use Rattle.configfs_tree.specs.Standing.{Placed, placed_in, placed_row}
+use Rattle.configfs_tree.specs.Told.{OneRow, space, subsystem_front}
 use Rattle.tree_target.specs.Views.{space_in}
 use Rattle.ns_table.proofs.Spaces.{none-some, some-same, found-passes}
 
@@ -91,8 +91,8 @@ beside t u touched h = record {
 pub beside-back : (t u : Configuration) (touched : Touched) → OneRow t u touched → Beside u t touched
 beside-back t u touched h = record {
   spaces = λ sub nsid. elim (h.spaces sub nsid) [
-    inl same ↦ inl (sym same)
-  | inr x ↦ inr (x.0, elim x.1 [ inl a ↦ inr a | inr b ↦ inl b ], x.2)
+    | inl same ↦ inl (sym same)
+    | inr x ↦ inr (x.0, elim x.1 [ inl a ↦ inr a | inr b ↦ inl b ], x.2)
   ];
   subsystems = λ sub. elim (h.subsystems sub) [ inl same ↦ inl (sym same) | inr x ↦ inr (x.0, x.2) ];
 }
@@ -106,10 +106,10 @@ other-place : (t u : Configuration) (touched : Touched) (s n k : ℕ) (a : Names
 other-place t u touched s n k a f x b is told =
     let w = under u f.row.nqn n x is in
     elim (b.subsystems f.row.nqn) [
-      inl same ↦
-        let fronts : subsystem_front (Some w.row) ≡ subsystem_front (Some f.row) = ap subsystem_front (sym w.named) ∙ (same ∙ ap subsystem_front f.named) in
-        sym w.at_is ∙ (front-place w.row f.row fronts ∙ f.at_is)
-    | inr y ↦ absurd (no-both touched k n y.0.at told y.1)
+      | inl same ↦
+          let fronts : subsystem_front (Some w.row) ≡ subsystem_front (Some f.row) = ap subsystem_front (sym w.named) ∙ (same ∙ ap subsystem_front f.named) in
+          sym w.at_is ∙ (front-place w.row f.row fronts ∙ f.at_is)
+      | inr y ↦ absurd (no-both touched k n y.0.at told y.1)
     ]
 
 -- a namespace at a position is there in the other tree too, or is the touched one
@@ -120,10 +120,10 @@ follow t u touched s n a ht hu b is =
     let here : Placed = record { at = s; row = a } in
     let old = found-placed t s n a f in
     elim (b.spaces f.row.nqn n) [
-      inl same ↦ inl (placed-there u f.row.nqn n here hu (same ∙ old))
-    | inr x ↦ elim x.1 [
-        inl mine ↦ inr (x.2 ∙ ap (λ (p : Placed). touches.Namespace p.at n) (some-same x.0 here (sym mine ∙ old)))
-      | inr theirs ↦ inr (x.2 ∙ ap (λ (k : ℕ). touches.Namespace k n) (other-place t u touched s n x.0.at a f x.0 b theirs x.2))
+      | inl same ↦ inl (placed-there u f.row.nqn n here hu (same ∙ old))
+      | inr x ↦ elim x.1 [
+        | inl mine ↦ inr (x.2 ∙ ap (λ (p : Placed). touches.Namespace p.at n) (some-same x.0 here (sym mine ∙ old)))
+        | inr theirs ↦ inr (x.2 ∙ ap (λ (k : ℕ). touches.Namespace k n) (other-place t u touched s n x.0.at a f x.0 b theirs x.2))
       ]
     ]
 
@@ -137,5 +137,5 @@ pub space-as-before : (t u : Configuration) (touched : Touched) (s n : ℕ) → 
     → (space_in n (subsystem_row u s) ≡ space_in n (subsystem_row t s)) ⊎ (touched ≡ touches.Namespace s n)
 space-as-before t u touched s n ht hu h =
     both-ways (space_in n (subsystem_row t s)) (space_in n (subsystem_row u s)) (touched ≡ touches.Namespace s n)
-      (λ a is. follow t u touched s n a ht hu (beside t u touched h) is)
-      (λ a is. follow u t touched s n a hu ht (beside-back t u touched h) is)
+    (λ a is. follow t u touched s n a ht hu (beside t u touched h) is)
+    (λ a is. follow u t touched s n a hu ht (beside-back t u touched h) is)

@@ -3,27 +3,24 @@ use Rattle.std.proofs.Common.{◌≡◌, ◌⊎◌, ℕ, ◌==◌, ◌&&◌, ◌
 use Rattle.std.proofs.lemmas.Bool.{eqb-true, eq-eqb}
 use Rattle.std.specs.FinMap as maps
 use Rattle.std.specs.Ordering.{nat_cmp}
-use Rattle.std.specs.List.{list_any}
 use Rattle.mem_bdev.specs.Blocks.{Blocks}
-use Rattle.sqe_cqe.specs.declared.controllers.ControllerRow.{ControllerRow}
-use Rattle.sqe_cqe.specs.declared.rows.Ana.{Ana}
 use Rattle.configfs_rows.specs.Nqns.{name_order}
 use Rattle.configfs_rows.specs.declared.namespaces.NamespaceRow.{NamespaceRow}
 use Rattle.configfs_rows.specs.declared.subsystems.SubsystemRow.{SubsystemRow}
 use Rattle.configfs_rows.proofs.Placing.{found_passes}
 use Rattle.configfs_tree.specs.declared.configuration.Configuration.{Configuration}
 use Rattle.configfs_tree.specs.declared.edits.Change.{Change}
-use Rattle.configfs_tree.specs.Links.{subsystem_row, port_row, SubsystemPositions}
+use Rattle.configfs_tree.specs.Links.{subsystem_row}
 use Rattle.configfs_tree.specs.Standing.{Placed, placed_in, placed_row, IsStanding}
-use Rattle.configfs_tree.specs.Told.{Tells, space, is_enabled, enabled_row, NamesSpace, SpaceTurns}
+use Rattle.configfs_tree.specs.Told.{Tells, space, enabled_row}
 use Rattle.configfs_tree.proofs.Positions.{subsystem_positions, port_positions}
-use Rattle.tree_target.specs.Views.{seen_of, space_in, group_in}
-use Rattle.ns_table.specs.Positions.{Place, Shown, Ready, Changes, SubsystemStamp, PortStamp, State, Space}
-use Rattle.ns_table.specs.Words.{Stamps, Shape, no_stamps, bit, state_word, space_words, word_for, is_shown, subsystem_shows, shows, is_on}
+use Rattle.tree_target.specs.Views.{seen_of, space_in}
+use Rattle.ns_table.specs.Positions.{Shown, Ready, Changes, SubsystemStamp, PortStamp, State, Space}
+use Rattle.ns_table.specs.Words.{Stamps, no_stamps, bit, state_word, space_words, is_shown, subsystem_shows, shows}
 use Rattle.ns_table.specs.Shown.{IsEnabledOn}
 use Rattle.ns_table.specs.Changed.{stamps_after, is_pair, is_at, disk_in, TurnsOn, IsTold, Keeps, shape_before, WordsChangeWhereTold}
 use Rattle.ns_table.proofs.Spaces.{none-some, some-same}
-use Rattle.ns_table.proofs.Disks.{found-shown, any-map, on-that}
+use Rattle.ns_table.proofs.Disks.{found-shown, any-map}
 use Rattle.ns_table.proofs.ByPosition.{placed-there, space-as-before, under}
 use Rattle.ns_table.proofs.PortsByPosition.{group-as-before}
 
@@ -61,13 +58,13 @@ space-word : (t u : Configuration) (c : Change) (blocks : List Blocks) (stamps :
     ≡ get_or (space_words (seen_of blocks (space_in n (subsystem_row t s))) (stamps.space s n)) part 0) ⊎ IsTold u c (Space s n part)
 space-word t u c blocks stamps serial s n part ht hu tells =
     elim (space-as-before t u c.touched s n (subsystem_positions t ht.placed) (subsystem_positions u hu.placed) tells.rows) [
-      inr told ↦ inr (inl told)
-    | inl same ↦ elim (stamped (is_pair s n c.namespace) serial (stamps.space s n) (c.namespace ≡ Some (s, n)) (pair-that c.namespace s n)) [
-        inr told ↦ inr (inr told)
-      | inl stamp ↦ inl (
-          ap (λ (o : Option NamespaceRow). get_or (space_words (seen_of blocks o) ((stamps_after serial c stamps).space s n)) part 0) same
-          ∙ ap (λ (k : ℕ). get_or (space_words (seen_of blocks (space_in n (subsystem_row t s))) k) part 0) stamp
-        )
+      | inr told ↦ inr (inl told)
+      | inl same ↦ elim (stamped (is_pair s n c.namespace) serial (stamps.space s n) (c.namespace ≡ Some (s, n)) (pair-that c.namespace s n)) [
+        | inr told ↦ inr (inr told)
+        | inl stamp ↦ inl (
+            ap (λ (o : Option NamespaceRow). get_or (space_words (seen_of blocks o) ((stamps_after serial c stamps).space s n)) part 0) same
+            ∙ ap (λ (k : ℕ). get_or (space_words (seen_of blocks (space_in n (subsystem_row t s))) k) part 0) stamp
+            )
       ]
     ]
 
@@ -128,24 +125,24 @@ gone t u c disk ht hu tells keeps was now =
     let pt = subsystem_positions t ht.placed in
     let pu = subsystem_positions u hu.placed in
     elim (tells.spaces w.sub w.nsid) [
-      inl same ↦
-        let e = enabled-on u w.sub w.nsid (space u w.sub w.nsid) refl (same ∙ (ap enabled_row here ∙ w.enabled)) in
-        let disk_is : e.y.row.disk ≡ Some disk = keeps.disks w.sub w.nsid x e.y here e.is (either-on w.namespace.enabled e.y.row.enabled w.enabled) ∙ w.on in
-        absurd (no-truth (sym now ∙ placed-shows u w.sub w.nsid disk e.y e.is e.on disk_is))
-    | inr named ↦
-        let turn = tells.space_named named.x.at w.nsid named.told in
-        let own : named.x ≡ x = some-same named.x x (sym named.stands ∙ here) in
-        let at_x : turn.x.at ≡ x.at = turn.at_is ∙ ap (λ (p : Placed). p.at) own in
-        let mine : space_in w.nsid (subsystem_row t x.at) ≡ Some turn.x.row = subst (λ (k : ℕ). space_in w.nsid (subsystem_row t k) ≡ Some turn.x.row) at_x (placed-there t turn.sub w.nsid turn.x pt turn.before) in
-        let row_is : turn.x.row ≡ x.row = some-same turn.x.row x.row (sym mine ∙ placed-there t w.sub w.nsid x pt here) in
-        let turned : turn.y.row.enabled ≡ not turn.x.row.enabled = turn.is ∙ ap not (sym turn.was) in
-        let disk_is : turn.y.row.disk ≡ Some disk =
-        keeps.disks turn.sub w.nsid turn.x turn.y turn.before turn.after (turned-one turn.x.row.enabled turn.y.row.enabled turned) ∙ (ap (λ (r : NamespaceRow). r.disk) row_is ∙ w.on) in
-        let a = under t turn.sub w.nsid turn.x turn.before in
-        let b = under u turn.sub w.nsid turn.y turn.after in
-        let at_y : turn.y.at ≡ named.x.at = sym b.at_is ∙ (keeps.subsystems turn.sub a.row b.row a.named b.named ∙ (a.at_is ∙ turn.at_is)) in
-        let there : space_in w.nsid (subsystem_row u named.x.at) ≡ Some turn.y.row = subst (λ (k : ℕ). space_in w.nsid (subsystem_row u k) ≡ Some turn.y.row) at_y (placed-there u turn.sub w.nsid turn.y pu turn.after) in
-        record { at = named.x.at; nsid = w.nsid; told = named.told; on = ap disk_in there ∙ disk_is }
+      | inl same ↦
+          let e = enabled-on u w.sub w.nsid (space u w.sub w.nsid) refl (same ∙ (ap enabled_row here ∙ w.enabled)) in
+          let disk_is : e.y.row.disk ≡ Some disk = keeps.disks w.sub w.nsid x e.y here e.is (either-on w.namespace.enabled e.y.row.enabled w.enabled) ∙ w.on in
+          absurd (no-truth (sym now ∙ placed-shows u w.sub w.nsid disk e.y e.is e.on disk_is))
+      | inr named ↦
+          let turn = tells.space_named named.x.at w.nsid named.told in
+          let own : named.x ≡ x = some-same named.x x (sym named.stands ∙ here) in
+          let at_x : turn.x.at ≡ x.at = turn.at_is ∙ ap (λ (p : Placed). p.at) own in
+          let mine : space_in w.nsid (subsystem_row t x.at) ≡ Some turn.x.row = subst (λ (k : ℕ). space_in w.nsid (subsystem_row t k) ≡ Some turn.x.row) at_x (placed-there t turn.sub w.nsid turn.x pt turn.before) in
+          let row_is : turn.x.row ≡ x.row = some-same turn.x.row x.row (sym mine ∙ placed-there t w.sub w.nsid x pt here) in
+          let turned : turn.y.row.enabled ≡ not turn.x.row.enabled = turn.is ∙ ap not (sym turn.was) in
+          let disk_is : turn.y.row.disk ≡ Some disk =
+          keeps.disks turn.sub w.nsid turn.x turn.y turn.before turn.after (turned-one turn.x.row.enabled turn.y.row.enabled turned) ∙ (ap (λ (r : NamespaceRow). r.disk) row_is ∙ w.on) in
+          let a = under t turn.sub w.nsid turn.x turn.before in
+          let b = under u turn.sub w.nsid turn.y turn.after in
+          let at_y : turn.y.at ≡ named.x.at = sym b.at_is ∙ (keeps.subsystems turn.sub a.row b.row a.named b.named ∙ (a.at_is ∙ turn.at_is)) in
+          let there : space_in w.nsid (subsystem_row u named.x.at) ≡ Some turn.y.row = subst (λ (k : ℕ). space_in w.nsid (subsystem_row u k) ≡ Some turn.y.row) at_y (placed-there u turn.sub w.nsid turn.y pu turn.after) in
+          record { at = named.x.at; nsid = w.nsid; told = named.told; on = ap disk_in there ∙ disk_is }
     ]
 
 -- shown after and not before: it turned
@@ -156,16 +153,16 @@ come t u c disk ht hu tells keeps was now =
     let here : space u w.sub w.nsid ≡ Some y = found-space u disk w in
     let pu = subsystem_positions u hu.placed in
     elim (tells.spaces w.sub w.nsid) [
-      inl same ↦
-        let e = enabled-on t w.sub w.nsid (space t w.sub w.nsid) refl (sym same ∙ (ap enabled_row here ∙ w.enabled)) in
-        let disk_is : e.y.row.disk ≡ Some disk = sym (keeps.disks w.sub w.nsid e.y y e.is here (either-on e.y.row.enabled w.namespace.enabled e.on)) ∙ w.on in
-        absurd (no-truth (sym was ∙ placed-shows t w.sub w.nsid disk e.y e.is e.on disk_is))
-    | inr named ↦
-        let a = under t w.sub w.nsid named.x named.stands in
-        let b = under u w.sub w.nsid y here in
-        let at_y : y.at ≡ named.x.at = sym b.at_is ∙ (keeps.subsystems w.sub a.row b.row a.named b.named ∙ a.at_is) in
-        let there : space_in w.nsid (subsystem_row u named.x.at) ≡ Some y.row = subst (λ (k : ℕ). space_in w.nsid (subsystem_row u k) ≡ Some y.row) at_y (placed-there u w.sub w.nsid y pu here) in
-        record { at = named.x.at; nsid = w.nsid; told = named.told; on = ap disk_in there ∙ w.on }
+      | inl same ↦
+          let e = enabled-on t w.sub w.nsid (space t w.sub w.nsid) refl (sym same ∙ (ap enabled_row here ∙ w.enabled)) in
+          let disk_is : e.y.row.disk ≡ Some disk = sym (keeps.disks w.sub w.nsid e.y y e.is here (either-on e.y.row.enabled w.namespace.enabled e.on)) ∙ w.on in
+          absurd (no-truth (sym was ∙ placed-shows t w.sub w.nsid disk e.y e.is e.on disk_is))
+      | inr named ↦
+          let a = under t w.sub w.nsid named.x named.stands in
+          let b = under u w.sub w.nsid y here in
+          let at_y : y.at ≡ named.x.at = sym b.at_is ∙ (keeps.subsystems w.sub a.row b.row a.named b.named ∙ a.at_is) in
+          let there : space_in w.nsid (subsystem_row u named.x.at) ≡ Some y.row = subst (λ (k : ℕ). space_in w.nsid (subsystem_row u k) ≡ Some y.row) at_y (placed-there u w.sub w.nsid y pu here) in
+          record { at = named.x.at; nsid = w.nsid; told = named.told; on = ap disk_in there ∙ w.on }
     ]
 
 shown-by : (a b : Bool) (P : Type 0) → (a ≡ true → b ≡ false → P) → (a ≡ false → b ≡ true → P) → (bit b ≡ bit a) ⊎ P
@@ -183,7 +180,7 @@ change_where_told t u c controllers blocks stamps serial ht hu tells keeps (Subs
 change_where_told t u c controllers blocks stamps serial ht hu tells keeps (PortStamp port) = stamped (is_at port c.ana_port) serial (stamps.port port) (c.ana_port ≡ Some port) (at-that c.ana_port port)
 change_where_told t u c controllers blocks stamps serial ht hu tells keeps (State port group) =
     elim (group-as-before t u c.touched port group (port_positions t ht.placed) (port_positions u hu.placed) tells.rows keeps.ports) [
-      inl same ↦ inl (ap state_word same)
-    | inr told ↦ inr told
+      | inl same ↦ inl (ap state_word same)
+      | inr told ↦ inr told
     ]
 change_where_told t u c controllers blocks stamps serial ht hu tells keeps (Space sub nsid part) = space-word t u c blocks stamps serial sub nsid part ht hu tells

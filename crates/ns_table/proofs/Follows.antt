@@ -1,11 +1,10 @@
 -- The words follow settings, controllers, stamps and sizes of disks.
-use Rattle.std.proofs.Common.{◌≡◌, ℕ, ◌==◌, Bool, true, false, if◌then◌else◌, List, length, get_or, Option, Some, None, refl, sym, ap, ◌∙◌}
+use Rattle.std.proofs.Common.{◌≡◌, ℕ, ◌==◌, if◌then◌else◌, List, length, get_or, Option, Some, None, refl, sym, ap, ◌∙◌}
 use Rattle.std.specs.List.{slice_get, find, list_any}
 use Rattle.std.specs.FinMap as maps
 use Rattle.mem_bdev.specs.Blocks.{Blocks}
 use Rattle.sqe_cqe.specs.Ready.{ready_in}
 use Rattle.sqe_cqe.specs.declared.controllers.ControllerRow.{ControllerRow}
-use Rattle.sqe_cqe.specs.declared.rows.NsRow.{NsRow}
 use Rattle.sqe_cqe.specs.declared.rows.Seen.{Seen}
 use Rattle.sqe_cqe.specs.declared.rows.Seen.TheVariants.{Off, On}
 use Rattle.configfs_rows.specs.declared.namespaces.NamespaceRow.{NamespaceRow}
@@ -13,7 +12,7 @@ use Rattle.configfs_rows.specs.declared.subsystems.SubsystemRow.{SubsystemRow}
 use Rattle.configfs_rows.specs.declared.ports.PortRow.{PortRow}
 use Rattle.configfs_tree.specs.declared.configuration.Settings.{Settings}
 use Rattle.configfs_tree.specs.declared.configuration.Configuration.{Configuration}
-use Rattle.configfs_tree.specs.Links.{subsystem_row, port_row}
+use Rattle.configfs_tree.specs.Links.{subsystem_row}
 use Rattle.tree_target.specs.Views.{seen_of, space_in, group_in, on_disk, on_blocks, row_of}
 use Rattle.ns_table.specs.declared.layout.TheConstants.{WORDS}
 use Rattle.ns_table.specs.Positions.{Place, Shown, Ready, Changes, SubsystemStamp, PortStamp, State, Space, place_at}

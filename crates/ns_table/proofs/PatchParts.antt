@@ -1,5 +1,5 @@
 -- The words of a patch, put together.
-use Rattle.std.proofs.Common.{◌≡◌, ◌<◌, ℕ, zero, suc, ◌+◌, ◌==◌, ◌&&◌, Bool, true, if◌then◌else◌, List, [], ◌∷◌, ◌++◌, map, get_or, Option, Some, None, refl, sym, ap, subst, ◌∙◌, append_assoc, arith}
+use Rattle.std.proofs.Common.{◌≡◌, ◌<◌, ℕ, zero, suc, ◌+◌, ◌==◌, ◌&&◌, Bool, true, if◌then◌else◌, List, [], ◌∷◌, ◌++◌, map, get_or, Option, Some, None, refl, sym, ap, ◌∙◌, append_assoc, arith}
 use Rattle.std.proofs.lemmas.Bool.{eq-eqb}
 use Rattle.std.proofs.lemmas.List.{map-append}
 use Rattle.std.specs.List.{range_with_len}
@@ -13,8 +13,8 @@ use Rattle.configfs_tree.specs.declared.edits.Touched.{Touched}
 use Rattle.configfs_tree.specs.declared.edits.Touched.TheVariants as touches
 use Rattle.configfs_tree.specs.Links.{subsystem_row}
 use Rattle.tree_target.specs.Views.{seen_of, space_in}
-use Rattle.ns_table.specs.Positions.{Place, Shown, Changes, SubsystemStamp, PortStamp, Space, at}
-use Rattle.ns_table.specs.Words.{Stamps, Shape, opened_shape, space_words, word_for}
+use Rattle.ns_table.specs.Positions.{Changes, SubsystemStamp, PortStamp, Space, at}
+use Rattle.ns_table.specs.Words.{Stamps, opened_shape, space_words}
 use Rattle.ns_table.specs.Changed.{stamps_after, is_pair, is_at, disk_in, shape_before}
 use Rattle.ns_table.specs.Patches.{placed_word, words_at, touched_places, shown_places, turned_places, port_places, subsystem_places, told_places, turned_words, port_words, subsystem_words}
 use Rattle.ns_table.proofs.Spaces.{stamp-again}

@@ -20,7 +20,7 @@ use Rattle.configfs_tree.proofs.SoundTable.{length_paths}
 use Rattle.ns_table.proofs.Spaces.{none-some}
 use Rattle.ns_table.proofs.ByPosition.{found-at, found-placed}
 use Rattle.ns_table.proofs.Changing.{placed-on-shows}
-use Rattle.ns_table.specs.Positions.{Place, Space, at}
+use Rattle.ns_table.specs.Positions.{Space, at}
 use Rattle.ns_table.specs.Words.{Shape, shows, is_shown, space_words, word_for}
 use Rattle.ns_table.specs.Patches.{placed_word, words_at}
 

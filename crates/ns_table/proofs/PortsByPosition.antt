@@ -53,18 +53,18 @@ follow : (t u : Configuration) (touched : Touched) (p g : ℕ) (a : Ana) → Por
 follow t u touched p g a ht hu b is =
     let f = found-row t p g a (port_row t p) ht refl is in
     elim (b.groups f.row.id g) [
-      inl same ↦
-        let old : told.group_in (map.get t.settings.ports f.row.id) g ≡ Some a = ap (λ (o : Option PortRow). told.group_in o g) f.named ∙ f.stands in
-        let k = held-on u f.row.id g a (map.get u.settings.ports f.row.id) refl (same ∙ old) in
-        let place : k.row.at ≡ p = b.places f.row.id f.row k.row f.named k.named ∙ f.at_is in
-        let there : port_row u p ≡ Some k.row = subst (λ (n : ℕ). port_row u n ≡ Some k.row) place (hu.of_id f.row.id k.row k.named) in
-        inl (ap (group_in g) there ∙ k.stands)
-    | inr x ↦
-        let place : x.0.at ≡ p = elim x.1 [
-          inl mine ↦ ap (λ (r : PortRow). r.at) (some-same x.0 f.row (sym mine ∙ f.named)) ∙ f.at_is
-        | inr theirs ↦ b.places f.row.id f.row x.0 f.named theirs ∙ f.at_is
-        ] in
-        inr (subst (λ (n : ℕ). IsGroupTold touched n g) place x.2)
+      | inl same ↦
+          let old : told.group_in (map.get t.settings.ports f.row.id) g ≡ Some a = ap (λ (o : Option PortRow). told.group_in o g) f.named ∙ f.stands in
+          let k = held-on u f.row.id g a (map.get u.settings.ports f.row.id) refl (same ∙ old) in
+          let place : k.row.at ≡ p = b.places f.row.id f.row k.row f.named k.named ∙ f.at_is in
+          let there : port_row u p ≡ Some k.row = subst (λ (n : ℕ). port_row u n ≡ Some k.row) place (hu.of_id f.row.id k.row k.named) in
+          inl (ap (group_in g) there ∙ k.stands)
+      | inr x ↦
+          let place : x.0.at ≡ p = elim x.1 [
+            | inl mine ↦ ap (λ (r : PortRow). r.at) (some-same x.0 f.row (sym mine ∙ f.named)) ∙ f.at_is
+            | inr theirs ↦ b.places f.row.id f.row x.0 f.named theirs ∙ f.at_is
+          ] in
+          inr (subst (λ (n : ℕ). IsGroupTold touched n g) place x.2)
     ]
 
 both-ways : (o p : Option Ana) (P : Type 0) → ((a : Ana) → o ≡ Some a → (p ≡ Some a) ⊎ P) → ((a : Ana) → p ≡ Some a → (o ≡ Some a) ⊎ P) → (p ≡ o) ⊎ P
@@ -89,5 +89,5 @@ pub group-as-before : (t u : Configuration) (touched : Touched) (p g : ℕ) → 
     → (group_in g (port_row u p) ≡ group_in g (port_row t p)) ⊎ IsGroupTold touched p g
 group-as-before t u touched p g ht hu h places =
     both-ways (group_in g (port_row t p)) (group_in g (port_row u p)) (IsGroupTold touched p g)
-      (λ a is. follow t u touched p g a ht hu (beside t u touched h places) is)
-      (λ a is. follow u t touched p g a hu ht (beside-back t u touched h places) is)
+    (λ a is. follow t u touched p g a ht hu (beside t u touched h places) is)
+    (λ a is. follow u t touched p g a hu ht (beside-back t u touched h places) is)

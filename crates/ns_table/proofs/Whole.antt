@@ -1,5 +1,5 @@
 -- Each word that an edit changes is in its patch.
-use Rattle.std.proofs.Common.{◌≡◌, ◌<◌, ◌⊎◌, ℕ, ◌+◌, ◌||◌, Bool, true, false, List, [], ◌∷◌, ◌++◌, length, map, get_or, Option, Some, None, is_some, IsTrue, refl, sym, ap, subst, ◌∙◌, inl, inr, arith}
+use Rattle.std.proofs.Common.{◌≡◌, ◌<◌, ◌⊎◌, ℕ, ◌||◌, true, false, List, [], ◌∷◌, ◌++◌, map, get_or, Option, Some, None, is_some, IsTrue, refl, sym, ap, subst, ◌∙◌, inl, inr, arith}
 use Rattle.std.proofs.lemmas.Bool.{cases_lt}
 use Rattle.std.specs.List.{Contains, range_with_len}
 use Rattle.std.proofs.lemmas.List.Elements.{Contains-append_left, Contains-append_right}
@@ -10,9 +10,9 @@ use Rattle.configfs_tree.specs.declared.edits.Touched.{Touched}
 use Rattle.configfs_tree.specs.declared.edits.Touched.TheVariants as touches
 use Rattle.configfs_tree.specs.Links.{subsystem_row}
 use Rattle.tree_target.specs.Views.{seen_of, space_in}
-use Rattle.ns_table.specs.Positions.{Place, Shown, Ready, Changes, SubsystemStamp, PortStamp, State, Space, IsWithin}
-use Rattle.ns_table.specs.Words.{space_words, word_for}
-use Rattle.ns_table.specs.Changed.{IsTold, TurnsOn, disk_in, shape_before, stamps_after, is_pair}
+use Rattle.ns_table.specs.Positions.{Place, Shown, Ready, Changes, SubsystemStamp, PortStamp, State, Space}
+use Rattle.ns_table.specs.Words.{space_words}
+use Rattle.ns_table.specs.Changed.{TurnsOn, disk_in, stamps_after, is_pair}
 use Rattle.ns_table.specs.Patches.{touched_places, shown_places, turned_places, port_places, subsystem_places, told_places, PatchesAreWhole}
 use Rattle.configfs_rows.specs.declared.namespaces.NamespaceRow.{NamespaceRow}
 use Rattle.configfs_tree.proofs.Positions.{subsystem_positions}
@@ -85,38 +85,38 @@ patch_whole t u c cs bs stamps serial ht hu tells keeps Changes within =
     elim (change_where_told t u c cs bs stamps serial ht hu tells keeps Changes) [ inl same ↦ inl same | inr told ↦ inr (count-there u c c.ana_port c.ana_subsystem refl refl told) ]
 patch_whole t u c cs bs stamps serial ht hu tells keeps (SubsystemStamp sub) within =
     elim (change_where_told t u c cs bs stamps serial ht hu tells keeps (SubsystemStamp sub)) [
-      inl same ↦ inl same
-    | inr told ↦ inr (subsystem-there u c (SubsystemStamp sub) sub told (first-of (SubsystemStamp sub) (Changes ∷ [])))
+      | inl same ↦ inl same
+      | inr told ↦ inr (subsystem-there u c (SubsystemStamp sub) sub told (first-of (SubsystemStamp sub) (Changes ∷ [])))
     ]
 patch_whole t u c cs bs stamps serial ht hu tells keeps (PortStamp port) within =
     elim (change_where_told t u c cs bs stamps serial ht hu tells keeps (PortStamp port)) [
-      inl same ↦ inl same
-    | inr told ↦ inr (port-there u c (PortStamp port) port told (first-of (PortStamp port) (Changes ∷ [])))
+      | inl same ↦ inl same
+      | inr told ↦ inr (port-there u c (PortStamp port) port told (first-of (PortStamp port) (Changes ∷ [])))
     ]
 patch_whole t u c cs bs stamps serial ht hu tells keeps (State port group) within =
     elim (change_where_told t u c cs bs stamps serial ht hu tells keeps (State port group)) [
-      inl same ↦ inl same
-    | inr told ↦ elim told [
-        inl mine ↦ inr (touched-there u c (State port group) (touches.Group port group) mine (first-of (State port group) []))
-      | inr one ↦ inr (touched-there u c (State port group) (touches.Port port) one.0 (subst (λ (g : ℕ). Contains (State port 1 ∷ []) (State port g)) (sym one.1) (first-of (State port 1) [])))
+      | inl same ↦ inl same
+      | inr told ↦ elim told [
+        | inl mine ↦ inr (touched-there u c (State port group) (touches.Group port group) mine (first-of (State port group) []))
+        | inr one ↦ inr (touched-there u c (State port group) (touches.Port port) one.0 (subst (λ (g : ℕ). Contains (State port 1 ∷ []) (State port g)) (sym one.1) (first-of (State port 1) [])))
       ]
     ]
 patch_whole t u c cs bs stamps serial ht hu tells keeps (Space s n part) within =
     elim (cases_lt part 10) [
-      inl small ↦ elim (space-as-before t u c.touched s n (subsystem_positions t ht.placed) (subsystem_positions u hu.placed) tells.rows) [
-        inl same ↦ inl (
-          ap (λ (o : Option NamespaceRow). get_or (space_words (seen_of bs o) ((stamps_after serial c stamps).space s n)) part 0) same
-          ∙ part-same (seen_of bs (space_in n (subsystem_row t s))) ((stamps_after serial c stamps).space s n) (stamps.space s n) part small
-        )
-      | inr mine ↦ inr (touched-there u c (Space s n part) (touches.Namespace s n) mine (part-there s n part small))
+      | inl small ↦ elim (space-as-before t u c.touched s n (subsystem_positions t ht.placed) (subsystem_positions u hu.placed) tells.rows) [
+        | inl same ↦ inl (
+            ap (λ (o : Option NamespaceRow). get_or (space_words (seen_of bs o) ((stamps_after serial c stamps).space s n)) part 0) same
+            ∙ part-same (seen_of bs (space_in n (subsystem_row t s))) ((stamps_after serial c stamps).space s n) (stamps.space s n) part small
+            )
+        | inr mine ↦ inr (touched-there u c (Space s n part) (touches.Namespace s n) mine (part-there s n part small))
       ]
-    | inr large ↦
-        let ten : part ≡ 10 = omega (arith, within.1) in
-        let seen_u = seen_of bs (space_in n (subsystem_row u s)) in
-        let seen_t = seen_of bs (space_in n (subsystem_row t s)) in
-        let P : ℕ → Type 0 = λ k. (get_or (space_words seen_u ((stamps_after serial c stamps).space s n)) k 0 ≡ get_or (space_words seen_t (stamps.space s n)) k 0) ⊎ Contains (told_places u c) (Space s n k) in
-        subst P (sym ten) (elim (stamped (is_pair s n c.namespace) serial (stamps.space s n) (c.namespace ≡ Some (s, n)) (pair-that c.namespace s n)) [
-          inl same ↦ inl (stamp-again seen_u ((stamps_after serial c stamps).space s n) ∙ (same ∙ sym (stamp-again seen_t (stamps.space s n))))
-        | inr told ↦ inr (stamp-place u c s n told)
-        ])
+      | inr large ↦
+          let ten : part ≡ 10 = omega (arith, within.1) in
+          let seen_u = seen_of bs (space_in n (subsystem_row u s)) in
+          let seen_t = seen_of bs (space_in n (subsystem_row t s)) in
+          let P : ℕ → Type 0 = λ k. (get_or (space_words seen_u ((stamps_after serial c stamps).space s n)) k 0 ≡ get_or (space_words seen_t (stamps.space s n)) k 0) ⊎ Contains (told_places u c) (Space s n k) in
+          subst P (sym ten) (elim (stamped (is_pair s n c.namespace) serial (stamps.space s n) (c.namespace ≡ Some (s, n)) (pair-that c.namespace s n)) [
+            | inl same ↦ inl (stamp-again seen_u ((stamps_after serial c stamps).space s n) ∙ (same ∙ sym (stamp-again seen_t (stamps.space s n))))
+            | inr told ↦ inr (stamp-place u c s n told)
+          ])
     ]

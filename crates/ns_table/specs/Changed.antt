@@ -1,5 +1,5 @@
 -- Which words an edit changes: those that its change tells of.
-use Rattle.std.specs.Prelude.{◌≡◌, ◌⊎◌, ℕ, ◌==◌, ◌&&◌, ◌||◌, Bool, false, true, if◌then◌else◌, List, Option, Some, None, is_some, IsTrue}
+use Rattle.std.specs.Prelude.{◌≡◌, ◌⊎◌, ℕ, ◌==◌, ◌&&◌, ◌||◌, Bool, false, if◌then◌else◌, List, Option, Some, None, is_some, IsTrue}
 use Rattle.std.specs.FinMap as maps
 use Rattle.mem_bdev.specs.Blocks.{Blocks}
 use Rattle.sqe_cqe.specs.declared.controllers.ControllerRow.{ControllerRow}
@@ -8,11 +8,10 @@ use Rattle.configfs_rows.specs.declared.subsystems.SubsystemRow.{SubsystemRow}
 use Rattle.configfs_rows.specs.declared.ports.PortRow.{PortRow}
 use Rattle.configfs_tree.specs.declared.configuration.Configuration.{Configuration}
 use Rattle.configfs_tree.specs.declared.edits.Change.{Change}
-use Rattle.configfs_tree.specs.declared.edits.Touched.{Touched}
 use Rattle.configfs_tree.specs.declared.edits.Touched.TheVariants as touches
 use Rattle.configfs_tree.specs.Links.{subsystem_row}
 use Rattle.configfs_tree.specs.Standing.{Placed, IsStanding}
-use Rattle.configfs_tree.specs.Told.{Tells, space, is_enabled}
+use Rattle.configfs_tree.specs.Told.{Tells, space}
 use Rattle.tree_target.specs.Views.{space_in}
 use Rattle.ns_table.specs.Positions.{Place, Shown, Ready, Changes, SubsystemStamp, PortStamp, State, Space}
 use Rattle.ns_table.specs.Words.{Stamps, Shape, word_for}

@@ -1,5 +1,5 @@
 -- What the words of a configuration depend on.
-use Rattle.std.specs.Prelude.{◌≡◌, ℕ, List, length, Option, Some, None}
+use Rattle.std.specs.Prelude.{◌≡◌, ℕ, length, Option, Some, None}
 use Rattle.std.specs.List.{slice_get}
 use Rattle.mem_bdev.specs.Blocks.{Blocks}
 use Rattle.ns_table.specs.Words.{Shape, words_of}

@@ -32,7 +32,8 @@ is_controller ctrl = nat_lt 0 ctrl && nat_lt ctrl 32
 abbrev pub shape_answers : Shape → ℕ → Answers
 shape_answers x serial = record (tree_answers x.tree x.controllers x.blocks) {
   ns_stamp = λ s n. if is_nsid s n then x.stamps.space s n else 0;
-  ana_stamp = λ s p. max (if nat_lt s 16 then x.stamps.subsystem s else 0) (if nat_lt p 8 then x.stamps.port p else 0);
+  ana_stamp = λ s p. max (if nat_lt s 16 then x.stamps.subsystem s else 0)
+      (if nat_lt p 8 then x.stamps.port p else 0);
   serial = serial;
 }
 
@@ -45,12 +46,14 @@ row_in ws from = record {
   blocks = slice_index ws (from + 3);
   group = slice_index ws (from + 4);
   uuid = to_le_bytes w64 (slice_index ws (from + 5)) ++ to_le_bytes w64 (slice_index ws (from + 6));
-  nguid = to_le_bytes w64 (slice_index ws (from + 7)) ++ to_le_bytes w64 (slice_index ws (from + 8));
+  nguid = to_le_bytes w64 (slice_index ws (from + 7))
+      ++ to_le_bytes w64 (slice_index ws (from + 8));
 }
 
 -- the words can be those of a row: a disk's number, a block size, a disk's size and a group
 abbrev pub may_be_row : NsRow → Bool
-may_be_row r = nat_lt r.disk 256 && (nat_lt r.shift 13 && (nat_le r.blocks MAX_DISK_BYTES && (nat_le (r.blocks * 2 ^ r.shift) MAX_DISK_BYTES && nat_le r.group 128)))
+may_be_row r = nat_lt r.disk 256 && (nat_lt r.shift 13 && (nat_le r.blocks MAX_DISK_BYTES
+    && (nat_le (r.blocks * 2 ^ r.shift) MAX_DISK_BYTES && nat_le r.group 128)))
 
 abbrev pub row_or_off : NsRow → Seen
 row_or_off r = if may_be_row r then On r else Off

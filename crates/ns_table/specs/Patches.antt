@@ -1,5 +1,5 @@
 -- The words that a change is published with.
-use Rattle.std.specs.Prelude.{◌≡◌, ◌⊎◌, ◌<◌, ℕ, ◌+◌, List, [], ◌∷◌, ◌++◌, map, Option, Some, None}
+use Rattle.std.specs.Prelude.{◌≡◌, ◌⊎◌, ◌<◌, ℕ, List, [], ◌∷◌, ◌++◌, map, Option, Some, None}
 use Rattle.std.specs.List.{Contains, range_with_len}
 use Rattle.mem_bdev.specs.Blocks.{Blocks}
 use Rattle.sqe_cqe.specs.declared.controllers.ControllerRow.{ControllerRow}
@@ -36,7 +36,8 @@ shown_places (Some disk) = Shown disk ∷ []
 -- a namespace that turned: its stamp, and its disk
 abbrev pub turned_places : Configuration → Option (ℕ × ℕ) → List Place
 turned_places u None = []
-turned_places u (Some x) = Space x.0 x.1 10 ∷ shown_places (disk_in (space_in x.1 (subsystem_row u x.0)))
+turned_places u (Some x) = Space x.0 x.1 10
+    ∷ shown_places (disk_in (space_in x.1 (subsystem_row u x.0)))
 
 -- an ANA change: its stamp, and the count
 abbrev pub port_places : Option ℕ → List Place
@@ -49,7 +50,8 @@ subsystem_places (Some sub) = SubsystemStamp sub ∷ Changes ∷ []
 
 -- all that a change tells of
 abbrev pub told_places : Configuration → Change → List Place
-told_places u c = touched_places c.touched ++ (turned_places u c.namespace ++ (port_places c.ana_port ++ subsystem_places c.ana_subsystem))
+told_places u c = touched_places c.touched ++ (turned_places u c.namespace
+    ++ (port_places c.ana_port ++ subsystem_places c.ana_subsystem))
 
 -- the words of these places
 abbrev pub words_at : Shape → List Place → List (ℕ × ℕ)

@@ -6,7 +6,8 @@ use Rattle.disk_extents.specs.Extents.{Part, extent, extents}
 
 -- each disk has a shape that a plan may give it
 abbrev pub HaveShapes : List Blocks → Type 0
-HaveShapes disks = (i : ℕ) (d : Blocks) → slice_get disks i ≡ Some d → IsShape d.shift (length d.blocks)
+HaveShapes disks = (i : ℕ) (d : Blocks) → slice_get disks i ≡ Some d
+    → IsShape d.shift (length d.blocks)
 
 -- the eight extents of each disk, disk after disk
 abbrev pub slots_of : List Blocks → List Part

@@ -70,7 +70,8 @@ abbrev pub shows : ℕ → NamespaceRow → Bool
 shows disk n = n.enabled && is_on disk n.disk
 
 abbrev pub subsystem_shows : ℕ → SubsystemRow → Bool
-subsystem_shows disk s = list_any (λ (e : ℕ × NamespaceRow). shows disk e.1) (maps.entries s.namespaces)
+subsystem_shows disk s = list_any (λ (e : ℕ × NamespaceRow). shows disk e.1)
+    (maps.entries s.namespaces)
 
 -- an enabled namespace is on the disk
 unfoldable pub is_shown : Configuration → ℕ → Bool

@@ -79,7 +79,8 @@ fn pair<R: Rows>(rows: &mut R, sub: u8, nsid: u32, first: u32) -> (u64, u64)
     requires nsid { IsNsid sub nsid }
     requires part { first < 10 }
     ensures low { result.0 ≡ slice_index (R.words (R.behind rows.old)) (space_at sub nsid + first) }
-    ensures high { result.1 ≡ slice_index (R.words (R.behind rows.old)) (space_at sub nsid + (first + 1)) }
+    ensures high { result.1 ≡ slice_index (R.words (R.behind rows.old))
+        (space_at sub nsid + (first + 1)) }
     ensures behind { R.behind rows.new ≡ R.behind rows.old }
     ensures loads { R.loads rows.new ≤ R.loads rows.old + 2 }
 {
@@ -141,21 +142,21 @@ fn state_of(word: u64) -> Ana
     }
 }
 
-fn has_nsid(sub: u8, nsid: u32) -> bool
+pub(crate) fn has_nsid(sub: u8, nsid: u32) -> bool
     ensures test { result ≡ is_nsid sub nsid }
     ensures meant { IsTrue result → IsNsid sub nsid }
 {
     sub < 16 && (0 < nsid && nsid < MAX_NSID + 1)
 }
 
-fn has_group(port: u8, group: u32) -> bool
+pub(crate) fn has_group(port: u8, group: u32) -> bool
     ensures test { result ≡ is_group port group }
     ensures meant { IsTrue result → IsGroup port group }
 {
     port < 8 && (0 < group && group < 129)
 }
 
-fn has_controller(ctrl: u16) -> bool
+pub(crate) fn has_controller(ctrl: u16) -> bool
     ensures test { result ≡ is_controller ctrl }
     ensures meant { IsTrue result → IsController ctrl }
 {
@@ -172,7 +173,8 @@ fn stamp_of(word: u64) -> u32
 // The stamp of the ANA changes of the subsystem at a position.
 fn subsystem_stamp<R: Rows>(rows: &mut R, sub: u8) -> u32
     ensures value { result ≡ (if nat_lt sub 16
-        then stamp_in (slice_index (R.words (R.behind rows.old)) (at (SubsystemStamp sub))) else 0) }
+        then stamp_in (slice_index (R.words (R.behind rows.old)) (at (SubsystemStamp sub)))
+        else 0) }
     ensures behind { R.behind rows.new ≡ R.behind rows.old }
 {
     if sub < 16 {

@@ -84,7 +84,9 @@ pub(crate) fn group_word(look: &mut TreeLook<'_>, port: u8, group: u32) -> u64
 // The word with a number among those of namespaces, from 0.
 fn namespace_word(look: &mut TreeLook<'_>, number: u32) -> u64
     requires { number < 360448 }
-    ensures { result ≡ word_for (opened_shape look.old.tree.now look.old.controllers.now look.old.disks.now) (space_place number) }
+    ensures { result ≡ word_for
+        (opened_shape look.old.tree.now look.old.controllers.now look.old.disks.now)
+        (space_place number) }
 {
     let sub = (number / 11 / 2_048) as u8;
     let nsid = number / 11 % 2_048 + 1;
@@ -124,7 +126,8 @@ pub fn opened_words(
     controllers: &Controllers,
     disks: &[Disk],
 ) -> Result<Vec<u64>, AllocError>
-    ensures { IfOk result (λ v. v.items ≡ words_of (opened_shape tree.now controllers.now disks.now)) }
+    ensures { IfOk result
+        (λ v. v.items ≡ words_of (opened_shape tree.now controllers.now disks.now)) }
 {
     let mut words = Vec::with_capacity(alloc, WORDS as usize)?;
     for at in 0..WORDS {

@@ -1,5 +1,5 @@
 //! The words that a change is published with.
-ghost use Rattle.std.specs.Prelude.{◌≡◌, ◌≤◌, ◌<◌, ◌+◌, ◌++◌, ◌∷◌, [], List, IfOk, IfSome, Some, option_copied, length};
+ghost use Rattle.std.specs.Prelude.{◌≡◌, ◌≤◌, ◌<◌, ◌+◌, ◌++◌, ◌∷◌, [], List, IfOk, IfSome, IsTrue, Some, option_copied, length};
 ghost use Rattle.mem_bdev.specs.Blocks.{Blocks};
 ghost use Rattle.sqe_cqe.specs.declared.controllers.ControllerRow.{ControllerRow};
 ghost use Rattle.configfs_tree.specs.Links.{subsystem_row};
@@ -12,6 +12,7 @@ ghost use Rattle.ns_table.specs.Words.{Stamps, is_shown, opened_shape};
 use crate::layout::{
     ana_word, changes_word, ns_word, port_stamp_word, ready_word, shown_word, subsystem_stamp_word,
 };
+use crate::look::{has_controller, has_group, has_nsid};
 use crate::opening::{bit_of, group_word, space_word};
 use crate::shown::{is_disk_shown, namespace_shows};
 use configfs_rows::NamespaceRow;
@@ -89,7 +90,13 @@ fn put_space(p: &mut Patch, look: &mut TreeLook<'_>, sub: u8, nsid: u32)
 }
 
 // Puts the row that was touched, but for its stamp.
-fn put_touched(p: &mut Patch, tree: &Tree, controllers: &Controllers, disks: &[Disk], touched: Touched)
+fn put_touched(
+    p: &mut Patch,
+    tree: &Tree,
+    controllers: &Controllers,
+    disks: &[Disk],
+    touched: Touched,
+)
     requires fits { FitsTouched touched }
     requires room { length p.old ≡ 0 }
     ensures value { p.new ≡ words_at (opened_shape tree.now controllers.now disks.now)
@@ -169,12 +176,7 @@ fn shows_disk(tree: &Tree, sub: u8, nsid: u32, disk: u8) -> bool
 }
 
 // Puts the stamp of a namespace that turned, and the word of its disk.
-fn put_turned(
-    p: &mut Patch,
-    tree: &Tree,
-    namespace: Option<(u8, u32)>,
-    serial: u32,
-)
+fn put_turned(p: &mut Patch, tree: &Tree, namespace: Option<(u8, u32)>, serial: u32)
     requires fits { FitsPair namespace }
     requires room { length p.old ≤ 10 }
     ensures value { (controllers : List ControllerRow) (blocks : List Blocks) → p.new ≡ p.old
@@ -190,6 +192,47 @@ fn put_turned(
     }
 }
 
+fn fits_touched(touched: Touched) -> bool
+    ensures { IsTrue result → FitsTouched touched }
+{
+    match touched {
+        Touched::Nothing | Touched::Subsystem(_) => true,
+        Touched::Namespace(sub, nsid) => has_nsid(sub, nsid),
+        Touched::Group(port, group) => has_group(port, group),
+        Touched::Port(port) => port < 8,
+        Touched::Controller(ctrl) => has_controller(ctrl),
+    }
+}
+
+fn fits_pair(namespace: Option<(u8, u32)>) -> bool
+    ensures { IsTrue result → FitsPair namespace }
+{
+    match namespace {
+        None => true,
+        Some((sub, nsid)) => has_nsid(sub, nsid),
+    }
+}
+
+fn is_below(most: u8, number: Option<u8>) -> bool
+    ensures { IsTrue result → IsBelow most number }
+{
+    match number {
+        None => true,
+        Some(number) => number < most,
+    }
+}
+
+/// Whether what a change names is within the limits of the table, as all that an edit of a tree
+/// answers is.
+pub fn fits(change: &Change) -> bool
+    ensures { IsTrue result → FitsChange change.now }
+{
+    fits_touched(change.touched)
+        && fits_pair(change.namespace)
+        && is_below(8, change.ana_port)
+        && is_below(16, change.ana_subsystem)
+}
+
 /// The words of all that a change tells of, at the serial that publishes it, in place of what the
 /// patch held: these are the only words that differ from those before the change
 /// (`words_change_where_told`). The tree is the one after the change. Takes no memory.
@@ -203,7 +246,8 @@ pub fn put_change(
 )
     requires { FitsChange change.now }
     ensures words { (old : Stamps) → to.new
-        ≡ words_at (shape_before tree.now controllers.now disks.now (stamps_after serial change.now old))
+        ≡ words_at (shape_before tree.now controllers.now disks.now
+        (stamps_after serial change.now old))
         (told_places tree.now change.now) }
     ensures few { length to.new ≤ 16 }
 {
