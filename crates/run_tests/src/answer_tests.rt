@@ -40,46 +40,11 @@ const ROWS: &[Row] = &[
     (&["run", ""], GOOD, NONE, &[], 1, USAGE),
     (&["go", "p"], GOOD, NONE, &[], 1, USAGE),
     (&["gen", "0", "g"], GOOD, NONE, &[], 1, USAGE),
-    (
-        &["run", "nope"],
-        GOOD,
-        NONE,
-        &[],
-        3,
-        b"cannot read nope\n",
-    ),
-    (
-        RUN,
-        GOOD,
-        NONE,
-        &[0],
-        3,
-        b"cannot read p\n",
-    ),
-    (
-        RUN,
-        GOOD,
-        NONE,
-        &[1],
-        3,
-        b"cannot read q1\n",
-    ),
-    (
-        RUN,
-        GOOD,
-        None,
-        &[],
-        3,
-        b"cannot read q1\n",
-    ),
-    (
-        RUN,
-        GOOD,
-        NONE,
-        &[2],
-        4,
-        b"cannot write r1\n",
-    ),
+    (&["run", "nope"], GOOD, NONE, &[], 3, b"cannot read nope\n"),
+    (RUN, GOOD, NONE, &[0], 3, b"cannot read p\n"),
+    (RUN, GOOD, NONE, &[1], 3, b"cannot read q1\n"),
+    (RUN, GOOD, None, &[], 3, b"cannot read q1\n"),
+    (RUN, GOOD, NONE, &[2], 4, b"cannot write r1\n"),
     (
         RUN,
         GOOD,
@@ -171,11 +136,7 @@ fn a_sink_that_fails_at_each_byte(rt: HostRuntime) -> Result<(), Fail> {
     for (number, row) in ROWS.iter().enumerate() {
         let written = row.4 == 0;
         let r1 = if written { b"".as_slice() } else { b"old" };
-        let status = if written {
-            4
-        } else {
-            row.4
-        };
+        let status = if written { 4 } else { row.4 };
         for room in 0..row.5.len() {
             let differs = differs(&rt, rt.alloc(), row, room, status, r1)?;
             assert_eq!(rt; differs, "", "row {number}, room {room}");

@@ -83,7 +83,11 @@ fn first_other<R: Wait + Threads + Sync>(
         let q1 = queue_of(alloc, row)?;
         let said = said(rt, alloc, plan, &q1)?;
         if said.as_slice() != row.2.as_bytes() {
-            return Ok(if row.2.is_empty() { "a fine row" } else { row.2 });
+            return Ok(if row.2.is_empty() {
+                "a fine row"
+            } else {
+                row.2
+            });
         }
     }
     Ok("")

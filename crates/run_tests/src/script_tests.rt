@@ -5,11 +5,16 @@ use sqe_cqe::write_sqe;
 use std::test::Fail;
 
 // A plan with a disk, a configuration, a script and two queues.
-const PLAN: &[u8] = b"nvmet-plan 1\ndisk /dev/ram0 9 16\nconfig c\nscript s\njournal j\nqueue 1 q1 r1\nqueue 2 q2 r2\n";
+const PLAN: &[u8] =
+    b"nvmet-plan 1\ndisk /dev/ram0 9 16\nconfig c\nscript s\njournal j\nqueue 1 q1 r1\nqueue 2 q2 r2\n";
 
 // A script, the journal that it gives on an empty configuration, and the second line of the summary.
 const JOURNALS: &[(&str, &str, &str)] = &[
-    ("", "nvmet-journal 1\nplaces 0\n", "edits 0 accepted 0 refused"),
+    (
+        "",
+        "nvmet-journal 1\nplaces 0\n",
+        "edits 0 accepted 0 refused",
+    ),
     (
         "mkdir hosts/h\nmkdir hosts/h\nmkdir subsystems/s\nlink subsystems/s/allowed_hosts/h\nrmdir hosts/h\n",
         "nvmet-journal 1\nplaces 5\nedit 0 1 ok\nedit 1 2 EEXIST\nedit 2 3 ok\nedit 3 4 ok\nedit 4 5 EBUSY\n",
@@ -69,8 +74,14 @@ fn queues_that_are_not_connected(rt: HostRuntime) -> Result<(), Fail> {
     let mut want = Vec::from_slice(rt.alloc(), &record(1, 1, 1, 0, 0, 7, 0x8002))?;
     want.extend_from_slice(&record(2, 1, 1, 1, 0, 8, 0x8002))?;
     assert_eq!(rt; run.content("r1"), want.as_slice());
-    assert_eq!(rt; run.content("r2"), record(3, 1, 1, 0, 0, 9, 0x8002).as_slice());
-    assert_eq!(rt; run.content("j"), b"nvmet-journal 1\nplaces 4\nedit 0 1 ok\n".as_slice());
+    assert_eq!(rt;
+        run.content("r2"),
+        record(3, 1, 1, 0, 0, 9, 0x8002).as_slice()
+    );
+    assert_eq!(rt;
+        run.content("j"),
+        b"nvmet-journal 1\nplaces 4\nedit 0 1 ok\n".as_slice()
+    );
     let text =
         b"places 4\nedits 1 accepted 0 refused\ndrains 0\ncommands 3 submitted 0 executed 3 refused\nevents 0 answered 0 waiting\nbytes 0 in 0 out\nconfig 0 passed over\n";
     assert_eq!(rt; run.text(), text.as_slice());
@@ -81,7 +92,12 @@ fn queues_that_are_not_connected(rt: HostRuntime) -> Result<(), Fail> {
 const FAULTS: &[(&str, &str, u8, &str)] = &[
     ("[1", "", 2, "malformed c json\n"),
     ("[]", "", 2, "malformed c member \n"),
-    ("{\"hosts\":[{}]}", "", 2, "malformed c member /hosts/0/nqn\n"),
+    (
+        "{\"hosts\":[{}]}",
+        "",
+        2,
+        "malformed c member /hosts/0/nqn\n",
+    ),
     (
         "{\"ports\":[{\"portid\":65536}]}",
         "",
