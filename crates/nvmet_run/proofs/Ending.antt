@@ -292,27 +292,27 @@ pub ended : (before mid after : Outside) (name : List ℕ) (plan : Plan) (f : Fa
     → Refusal before after name f
 ended before mid after name plan f p ends same said = elim ends [
   | inl read ↦
-    let e : IsEarlier before.files after.files = subst (λ (v : FilesView). IsEarlier before.files v)
-    (sym same) read.1 in
-    let here : Said before.sink after.sink (line_of (name_of name plan (file_of f)) f) =
-    subst (λ (v : SinkView). Said v after.sink (line_of (name_of name plan (file_of f)) f)) read.2
-    said in
-    elim read.0 [
-      | inl memory ↦ no_memory before after name (name_of name plan (file_of f)) f memory e here
-      | inr stopped ↦ files_unread before after name plan f p
-          (subst (λ (v : FilesView). ReadsFiles before.files v (input_files plan) (begun plan) (Err f))
-          (sym same) (stopped before.files (earlier_same before.files))) e here
-    ]
+      let e : IsEarlier before.files after.files = subst (λ (v : FilesView). IsEarlier before.files v)
+      (sym same) read.1 in
+      let here : Said before.sink after.sink (line_of (name_of name plan (file_of f)) f) =
+      subst (λ (v : SinkView). Said v after.sink (line_of (name_of name plan (file_of f)) f)) read.2
+      said in
+      elim read.0 [
+        | inl memory ↦ no_memory before after name (name_of name plan (file_of f)) f memory e here
+        | inr stopped ↦ files_unread before after name plan f p
+            (subst (λ (v : FilesView). ReadsFiles before.files v (input_files plan) (begun plan) (Err f))
+            (sym same) (stopped before.files (earlier_same before.files))) e here
+      ]
   | inr made ↦ elim made.4 [
     | inl stops ↦
-      let here : Said before.sink after.sink (line_of (name_of name plan (file_of f)) f) =
-      subst (λ (v : SinkView). Said v after.sink (line_of (name_of name plan (file_of f)) f))
-      stops.1 said in
-      let stop : StopsAt (to_write plan made.0 made.1) before.files after.files f =
-      subst (λ (v : FilesView). StopsAt (to_write plan made.0 made.1) before.files v f) (sym same)
-      stops.0 in
-      unwritten_refusal before after name f (to_write plan made.0 made.1) stop
-      (unwritten before after name plan made.0 made.1 made.2 f made.3 stop here)
+        let here : Said before.sink after.sink (line_of (name_of name plan (file_of f)) f) =
+        subst (λ (v : SinkView). Said v after.sink (line_of (name_of name plan (file_of f)) f))
+        stops.1 said in
+        let stop : StopsAt (to_write plan made.0 made.1) before.files after.files f =
+        subst (λ (v : FilesView). StopsAt (to_write plan made.0 made.1) before.files v f) (sym same)
+        stops.0 in
+        unwritten_refusal before after name f (to_write plan made.0 made.1) stop
+        (unwritten before after name plan made.0 made.1 made.2 f made.3 stop here)
     | inr put ↦ unsaid before mid after name (name_of name plan (file_of f)) plan made.0 made.1
         made.2 f put.0 made.3 put.1 put.2 same said
   ]

@@ -32,13 +32,13 @@ pub reads_walk : (before after : FilesView) (files : List InputFile) (s t : Know
 reads_walk before after [] s t w = w
 reads_walk before after (file ∷ files) s t w =
     by w.0 w.1 w.2 (λ v rest. reads_walk before after files v t rest) where
-  by : (u : Result Known Fault) → WasRead before.told file.number file.name (FileGives file s) u
-      → Then u (Walk (WasRead before.told) files) (Ok t)
-      → ((v : Known) → Walk (WasRead before.told) files v (Ok t)
-      → Walk (Reading before after) files v (Ok t))
-      → Walk (Reading before after) (file ∷ files) s (Ok t)
-  by (Ok v) says rest more = (Ok v, says, more v rest)
-  by (Err f) says rest more = absurd cc
+      by : (u : Result Known Fault) → WasRead before.told file.number file.name (FileGives file s) u
+          → Then u (Walk (WasRead before.told) files) (Ok t)
+          → ((v : Known) → Walk (WasRead before.told) files v (Ok t)
+          → Walk (Reading before after) files v (Ok t))
+          → Walk (Reading before after) (file ∷ files) s (Ok t)
+      by (Ok v) says rest more = (Ok v, says, more v rest)
+      by (Err f) says rest more = absurd cc
 
 -- a write is no reason why reading ends
 pub walk_no_write : (before after : FilesView) (files : List InputFile) (s : Known) (n : FileNo)
@@ -46,12 +46,12 @@ pub walk_no_write : (before after : FilesView) (files : List InputFile) (s : Kno
 walk_no_write before after [] s n w = absurd cc
 walk_no_write before after (file ∷ files) s n w =
     by w.0 w.1 w.2 (λ v rest. walk_no_write before after files v n rest) where
-  by : (u : Result Known Fault) → Reading before after file.number file.name (FileGives file s) u
-      → Then u (Walk (Reading before after) files) (Err (fault.WriteFault n))
-      → ((v : Known) → Walk (Reading before after) files v (Err (fault.WriteFault n)) → ⊥) → ⊥
-  by (Ok v) says rest more = more v rest
-  by (Err f) says rest more = subst (λ (x : Result Known Fault). Reading before after file.number
-      file.name (FileGives file s) x) (sym rest) says
+      by : (u : Result Known Fault) → Reading before after file.number file.name (FileGives file s) u
+          → Then u (Walk (Reading before after) files) (Err (fault.WriteFault n))
+          → ((v : Known) → Walk (Reading before after) files v (Err (fault.WriteFault n)) → ⊥) → ⊥
+      by (Ok v) says rest more = more v rest
+      by (Err f) says rest more = subst (λ (x : Result Known Fault). Reading before after file.number
+          file.name (FileGives file s) x) (sym rest) says
 
 -- ---- names
 pub all_texts : (queues : List QueueLine)

@@ -32,11 +32,7 @@ fn room_of_journal(lines: &[JournalLine]) -> u128
 
 /// The journal of a run with so many places. A journal that is longer than memory can be is one for
 /// which there is no memory.
-pub fn journal_of(
-    alloc: Global,
-    places: u32,
-    lines: &[JournalLine],
-) -> Result<Buffer, AllocError>
+pub fn journal_of(alloc: Global, places: u32, lines: &[JournalLine]) -> Result<Buffer, AllocError>
     ensures { IfOk result (λ b. b.bytes ≡ journal_text places lines.now) }
 {
     let Ok(room) = usize::try_from(room_of_journal(lines)) else {

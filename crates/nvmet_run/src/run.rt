@@ -28,8 +28,8 @@ use crate::writing::write_files;
 use mem_bdev::Buffer;
 use plan_files::{Files, Gate, Plan, Sink};
 use run_inputs::{PlanInputs, file_name, read_plan_file, read_plan_inputs, told_files_settle};
-use run_serving::{Served, serve};
 use run_outcomes::{Fault, plans_have_apart_names, put_line, put_text};
+use run_serving::{Served, serve};
 use std::alloc::{AllocError, Global};
 use std::sync::Wait;
 use std::thread::Threads;
@@ -115,7 +115,14 @@ fn write_run<F: Files, K: Sink>(
     plans_have_apart_names();
     let lines = plan.queues.as_slice();
     let text = printed.journal.bytes();
-    match write_files(1, lines, &printed.served.outputs, &plan.journal, text, files) {
+    match write_files(
+        1,
+        lines,
+        &printed.served.outputs,
+        &plan.journal,
+        text,
+        files,
+    ) {
         Ok(()) => put_text(printed.text.as_bytes(), out),
         Err(fault) => Err(fault),
     }

@@ -39,5 +39,9 @@ pub fn read_words(words: &[String]) -> Option<(Verb, &str)>
     };
     let verb = verb_of(verb.as_str())?;
     let name = name.as_str();
-    if names_a_plan(name) { Some((verb, name)) } else { None }
+    if names_a_plan(name) {
+        Some((verb, name))
+    } else {
+        None
+    }
 }

@@ -9,8 +9,8 @@ ghost use Rattle.run_outcomes.specs.Written.{AreApart, Writes};
 
 use mem_bdev::Name;
 use plan_files::{Files, QueueLine};
-use run_serving::Output;
 use run_outcomes::{Fault, JOURNAL, responses_number, write_file};
+use run_serving::Output;
 
 // Writes the journal, where the plan has one.
 fn write_journal<F: Files>(name: &Option<Name>, text: &[u8], files: &mut F) -> Result<(), Fault>

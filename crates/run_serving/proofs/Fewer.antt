@@ -177,12 +177,12 @@ ends : (n : ℕ) (t : Target) (queue : ℕ) → points_at t queue < n → EndsWi
 ends zero t queue lt = absurd (omega (arith, lt))
 ends (suc n) t queue lt =
     by (event_at t queue) refl (λ less. ends n (target_after t (Poll queue)) queue less) where
-  by : (o : Option (ℕ × ℕ)) → event_at t queue ≡ o
-      → (points_at (target_after t (Poll queue)) queue < n
-      → EndsWithin n (target_after t (Poll queue)) queue)
-      → EndsWithin (suc n) t queue
-  by None e more = inl (no_event t queue e)
-  by (Some x) e more = inr (more (omega (arith, lt, step t queue x e)))
+      by : (o : Option (ℕ × ℕ)) → event_at t queue ≡ o
+          → (points_at (target_after t (Poll queue)) queue < n
+          → EndsWithin n (target_after t (Poll queue)) queue)
+          → EndsWithin (suc n) t queue
+      by None e more = inl (no_event t queue e)
+      by (Some x) e more = inr (more (omega (arith, lt, step t queue x e)))
 
 pub polls_end : (t : Target) (queue : ℕ) → EndsWithin 5 t queue
 polls_end t queue = ends 5 t queue
