@@ -9,11 +9,11 @@ use std::test::Fail;
 use std::thread::Threads;
 
 // What the sink takes of a run with an empty configuration; nothing where it ended well.
-fn said<R: Wait + Threads + Sync>(
+fn said<'x, R: Wait + Threads + Sync>(
     rt: &R,
     alloc: Global,
-    plan: &[u8],
-    q1: &[u8],
+    plan: &'x [u8],
+    q1: &'x [u8],
 ) -> Result<Vec<u8>, Fail> {
     let run = run(rt, alloc, &[("p", plan), ("q1", q1), ("c", b"{}")])?;
     if run.code == 0 {
