@@ -1,0 +1,13 @@
+pub mod Choosing
+pub mod Fields
+pub mod Heads
+pub mod Printing
+pub mod Listing
+pub mod Fronting
+pub mod Numbers
+pub mod Wording
+pub mod Calling
+pub mod Saying
+pub mod Rows
+pub mod Telling
+pub mod Beginning
