@@ -1,0 +1,3 @@
+pub mod Told
+pub mod Cursors
+pub mod Steps
