@@ -9,6 +9,8 @@ use Rattle.run_transcript.specs.Turns as turns
 use Rattle.run_transcript.specs.Turns.{Progress, next_capsule, is_admin_at}
 use Rattle.tree_target.specs.Model.{Call, Target}
 use Rattle.tree_target.specs.Kept.{Kept, IsIdle, IsHolding}
+use Rattle.tree_target.specs.declared.calls.Reply.{Reply}
+use Rattle.tree_target.specs.declared.calls.Reply.TheVariants as replies
 use Rattle.check_records.specs.declared.cursor.Stage.{Stage}
 use Rattle.check_records.specs.declared.cursor.Stage.TheVariants as stages
 use Rattle.check_records.specs.declared.cursor.Cursor.{Cursor}
@@ -88,3 +90,58 @@ IsNextStep f at s = IsStepAt at.stage f at.taken s
 abbrev pub polled : Bool → ℕ → Option Step
 polled true taken = Some (record { kind = kinds.Poll; number = taken })
 polled false taken = None
+
+-- ---- after a call
+abbrev pub stage_by : Stage → Reply → Stage
+stage_by stages.Through reply = stages.Ready
+stage_by stages.Ready replies.NoEvent = stages.Ended
+stage_by stages.Holding replies.NoEvent = stages.Ended
+stage_by stages.Ended replies.NoEvent = stages.Ended
+stage_by s reply = stages.Ready
+
+abbrev pub stage_submitted : Reply → Stage
+stage_submitted replies.Held = stages.Holding
+stage_submitted reply = stages.Through
+
+-- the cursor behind a call of this kind that replied so
+abbrev pub behind : Cursor → Kind → Reply → Cursor
+behind at kinds.Submit reply = record { taken = at.taken + 1; stage = stage_submitted reply }
+behind at kinds.Execute reply = record { taken = at.taken; stage = stages.Through }
+behind at kinds.Poll reply = record { taken = at.taken; stage = stage_by at.stage reply }
+behind at kinds.Control reply = record { taken = at.taken + 1; stage = stages.Ready }
+
+-- a call of this kind and number can be made
+abbrev pub CanMake : Kind → Kept → ℕ → ℕ → CapsuleFile → Type 0
+CanMake kinds.Submit k queue number f = IsIdle k queue × (number < length f.capsules.items)
+CanMake kinds.Execute k queue number f = (given : ℕ)
+    × IsHolding k queue number (length (capsule_at (capsules_of f) number).payload) given
+    × (number < length f.capsules.items)
+CanMake kinds.Poll k queue number f = IsIdle k queue
+CanMake kinds.Control k queue number f = IsIdle k queue
+    × (number < length f.capsules.items)
+    × ((capsule_at (capsules_of f) number).entry.opcode ≡ FABRICS)
+
+-- it was made: a submit that was held holds its command, and nothing is held after another call
+abbrev pub HoldsBy : Reply → Kept → ℕ → ℕ → Capsule → Type 0
+HoldsBy replies.Held k queue number c = (given : ℕ)
+    × IsHolding k queue number (length c.payload) given
+HoldsBy (replies.Answered cqe) k queue number c = IsIdle k queue
+HoldsBy replies.Waiting k queue number c = IsIdle k queue
+HoldsBy replies.NoEvent k queue number c = IsIdle k queue
+HoldsBy replies.Accepted k queue number c = IsIdle k queue
+HoldsBy (replies.Errno errno) k queue number c = IsIdle k queue
+HoldsBy replies.Ended k queue number c = IsIdle k queue
+
+abbrev pub HasMade : Kind → Reply → Kept → ℕ → ℕ → CapsuleFile → Type 0
+HasMade kinds.Submit reply k queue number f = HoldsBy reply k queue number
+    (capsule_at (capsules_of f) number)
+HasMade kinds.Execute reply k queue number f = IsIdle k queue
+HasMade kinds.Poll reply k queue number f = IsIdle k queue
+HasMade kinds.Control reply k queue number f = IsIdle k queue
+
+-- a poll says how many capsules were taken
+abbrev pub IsNumbered : Kind → ℕ → ℕ → Type 0
+IsNumbered kinds.Poll number taken = number ≡ taken
+IsNumbered kinds.Submit number taken = Unit {0}
+IsNumbered kinds.Execute number taken = Unit {0}
+IsNumbered kinds.Control number taken = Unit {0}

@@ -5,7 +5,7 @@ ghost use Rattle.tree_target.specs.Model as model;
 ghost use Rattle.tree_target.specs.Stands.{StandsFor};
 ghost use Rattle.tree_target.specs.Kept.{is_admin_in};
 ghost use Rattle.run_transcript.specs.Turns.{after_call, next_call, next_capsule, is_admin_at};
-ghost use Rattle.check_records.specs.Cursors.{IsFirstStep, IsInside, IsNextStep, capsules_of, polled, progress_at, step_call};
+ghost use Rattle.check_records.specs.Cursors.{IsFirstStep, IsInside, IsNextStep, behind, capsules_of, polled, progress_at, step_call};
 ghost use Rattle.check_records.specs.Told.{call_told};
 
 use run_records::Kind;
@@ -99,7 +99,8 @@ impl Cursor {
     /// Goes on behind a call that replied so.
     pub fn advance(&mut self, kind: Kind, reply: &Reply)
         requires { self.old.taken < 4294967295 }
-        ensures { (queue number : ℕ) (file : List Capsule) (taken : ℕ) →
+        ensures at { self.new ≡ behind self.old kind reply.now }
+        ensures progress { (queue number : ℕ) (file : List Capsule) (taken : ℕ) →
             progress_at self.new ≡ after_call (progress_at self.old)
             (call_told queue file taken kind number) reply.now }
     {

@@ -11,5 +11,6 @@ mod calls;
 mod cursor;
 mod differences;
 mod places;
+mod queue_steps;
 
 pub use run_verdicts::{Field, Verdict};
