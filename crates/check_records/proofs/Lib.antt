@@ -1,3 +1,4 @@
 pub mod Placing
 pub mod Nexts
 pub mod Stepping
+pub mod Editing

@@ -1,3 +1,4 @@
 pub mod Told
 pub mod Cursors
+pub mod Editors
 pub mod Steps

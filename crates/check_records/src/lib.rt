@@ -10,6 +10,7 @@
 mod calls;
 mod cursor;
 mod differences;
+mod editor_steps;
 mod places;
 mod queue_steps;
 
