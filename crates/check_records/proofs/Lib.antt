@@ -2,3 +2,4 @@ pub mod Placing
 pub mod Nexts
 pub mod Stepping
 pub mod Editing
+pub mod Replaying

@@ -2,3 +2,4 @@ pub mod Told
 pub mod Cursors
 pub mod Editors
 pub mod Steps
+pub mod Seats

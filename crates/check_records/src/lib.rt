@@ -13,5 +13,6 @@ mod differences;
 mod editor_steps;
 mod places;
 mod queue_steps;
+mod seats;
 
 pub use run_verdicts::{Field, Verdict};
