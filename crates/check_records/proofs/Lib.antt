@@ -3,3 +3,5 @@ pub mod Nexts
 pub mod Stepping
 pub mod Editing
 pub mod Replaying
+pub mod Seating
+pub mod Finding

@@ -1,18 +1,21 @@
 -- Where the records of all callers stand that were made again, and one place more.
-use Rattle.std.specs.Prelude.{◌≡◌, ◌≢◌, ◌≤◌, ◌<◌, ◌↔◌, ◌⊎◌, ℕ, zero, suc, ◌+◌, Bool, true, false, List, [], ◌∷◌, length, drop, Option, Some, None, slice_get, map, All, take}
+use Rattle.std.specs.Prelude.{◌≡◌, ◌≢◌, ◌≤◌, ◌<◌, ◌↔◌, ◌⊎◌, ℕ, zero, suc, ◌+◌, Bool, true, false, List, [], ◌∷◌, length, drop, Option, Some, None, option_map, slice_get, map, All, take}
 use Rattle.plan_files.specs.Capsules.{Capsule}
 use Rattle.response_files.specs.Responses.{Response, IsWholeIn, responses_in}
 use Rattle.journal_text.specs.declared.lines.JournalLine.{JournalLine}
+use Rattle.journal_text.specs.declared.lines.JournalLine.TheVariants as lines
+use Rattle.response_files.specs.declared.responses.Record.{Record}
 use Rattle.tree_target.specs.Kept.{Kept, LeavesOthers}
 use Rattle.tree_target.specs.Stands.{StandsFor}
 use Rattle.run_transcript.specs.declared.capsule_files.CapsuleFile.{CapsuleFile}
 use Rattle.run_transcript.specs.declared.scripts.ScriptEdit.{ScriptEdit}
 use Rattle.run_transcript.specs.Runs.{Run, Placed, callers, target_at}
-use Rattle.run_transcript.specs.Turns.{progress_of, next_call, after_entry}
+use Rattle.run_transcript.specs.Turns.{progress_of, next_call, next_edit, after_entry, editing_after}
 use Rattle.run_transcript.specs.Served.{front_len, is_final}
 use Rattle.tree_target.specs.Model.{Target}
 use Rattle.run_verdicts.specs.declared.verdict.Field.TheVariants as field
 use Rattle.check_records.specs.declared.cursor.Cursor.{Cursor}
+use Rattle.check_records.specs.declared.editor_steps.EditCursor.{EditCursor}
 use Rattle.run_verdicts.specs.declared.verdict.Field.{Field}
 use Rattle.run_verdicts.specs.Places.{ArePlaces}
 use Rattle.run_verdicts.specs.Nexts.{told, places_of, in_places, fronts_before, editing_of, below, AreAllBelow}
@@ -20,7 +23,7 @@ use Rattle.run_verdicts.specs.Faults.{AgreesBelow, IsFault}
 use Rattle.check_records.specs.declared.seats.Responses.{Responses}
 use Rattle.check_records.specs.declared.seats.Seat.{Seat}
 use Rattle.check_records.specs.declared.seats.Desk.{Desk}
-use Rattle.check_records.specs.Told.{IsTold, queue_told, editor_told, entry_told}
+use Rattle.check_records.specs.Told.{IsTold, queue_told, editor_told, entry_told, line_told}
 use Rattle.check_records.specs.Cursors.{capsules_of, progress_at, IsReady}
 use Rattle.check_records.specs.Editors.{editing_at}
 use Rattle.check_records.specs.Steps.{IsBlankUnlessAnswered, Steps}
@@ -128,6 +131,39 @@ pub record IsAtDesk (script : List ScriptEdit) (journal : List JournalLine) (d :
   where
     pub editing : editing_at script d.cursor ≡ editing_of (take d.next (editor_told script journal))
 
+abbrev pub DeskSteps : List ScriptEdit → Option JournalLine → EditCursor → Kept → Option Field
+    → Kept → Type 0
+DeskSteps script None at old result new = ⊥
+DeskSteps script (Some l) at old result new = (t : Target) → StandsFor old t
+    → Steps (next_edit t script (editing_at script at)) t
+    (line_told script (editing_at script at) l).entry result new
+
+abbrev pub IsBehindLine : List ScriptEdit → Option JournalLine → EditCursor → EditCursor → Type 0
+IsBehindLine script None old new = ⊥
+IsBehindLine script (Some l) old new = editing_at script new
+    ≡ editing_after (editing_at script old) (line_told script (editing_at script old) l).entry
+
 -- all that isn't a final poll stands below the places from this one on
 abbrev pub IsBound : Run → ℕ → Type 0
 IsBound run bound = (p : ℕ) → (bound ≤ p) ↔ AreAllBelow run p
+
+-- ---- whose next entry has a place
+abbrev pub place_in : List Record → ℕ → Option ℕ
+place_in records next = option_map (λ r. r.head.place) (slice_get records next)
+
+abbrev pub place_by : Option Seat → Option Responses → Option ℕ
+place_by None r = None
+place_by (Some s) None = None
+place_by (Some s) (Some r) = place_in r.records.items s.next
+
+-- the place of the next record of queue q + 1
+abbrev pub seat_place : List Seat → List Responses → ℕ → Option ℕ
+seat_place seats responses q = place_by (slice_get seats q) (slice_get responses q)
+
+abbrev pub place_of_line : JournalLine → ℕ
+place_of_line (lines.Edit place line answer) = place
+place_of_line (lines.Done place line) = place
+
+-- the place of the journal's next line
+abbrev pub desk_place : List JournalLine → Desk → Option ℕ
+desk_place journal d = option_map place_of_line (slice_get journal d.next)

@@ -13,6 +13,7 @@ mod differences;
 mod editor_steps;
 mod places;
 mod queue_steps;
+mod replay;
 mod seats;
 
 pub use run_verdicts::{Field, Verdict};
