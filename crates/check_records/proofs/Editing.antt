@@ -1,7 +1,6 @@
 -- One line of the journal, made again.
-use Rattle.std.proofs.Common.{◌≡◌, ◌≢◌, ◌≤◌, ◌<◌, ℕ, Bool, true, false, IsTrue, List, [], length, get_or, Option, Some, None, slice_get, is_some, refl, sym, ap, subst, ◌∙◌, arith, eqb, eqb-true, eq-eqb}
-use Rattle.std.proofs.lemmas.Option.{slice_get-get_or, slice_get_past}
-use Rattle.run_records.specs.declared.records.Answer.{Answer}
+use Rattle.std.proofs.Common.{◌≡◌, ◌<◌, ℕ, true, false, List, [], length, get_or, Option, Some, None, slice_get, is_some, refl, sym, ap, subst, ◌∙◌, eqb, eq-eqb}
+use Rattle.std.proofs.lemmas.Option.{slice_get-get_or}
 use Rattle.run_records.specs.declared.records.Answer.TheVariants as answers
 use Rattle.journal_text.specs.declared.lines.Answer.{Answer as EditAnswer}
 use Rattle.journal_text.specs.declared.lines.Answer.TheVariants as edits
@@ -13,8 +12,8 @@ use Rattle.tree_target.specs.declared.calls.Reply.{Reply}
 use Rattle.tree_target.specs.declared.calls.Reply.TheVariants as replies
 use Rattle.tree_target.specs.Edits.{Edit, disables, outcome}
 use Rattle.tree_target.specs.Kept.{Kept}
-use Rattle.tree_target.specs.Model.{Call, AnEdit, DrainEnd, Poll, Entry, Target}
-use Rattle.tree_target.specs.Steps.{is_draining_phase, is_lawful, may_end, reply_of, bytes_of, edited, entry_of, target_after}
+use Rattle.tree_target.specs.Model.{Call, AnEdit, DrainEnd, Entry, Target}
+use Rattle.tree_target.specs.Steps.{is_draining_phase, reply_of, bytes_of, edited, entry_of}
 use Rattle.tree_target.specs.Stands.{StandsFor, Does}
 use Rattle.run_transcript.specs.declared.scripts.ScriptEdit.{ScriptEdit}
 use Rattle.run_transcript.specs.Printing.{answer_of, completion_of, no_completion}
@@ -22,7 +21,7 @@ use Rattle.run_transcript.specs.Turns.{Disabled, disabled_on, edit_after, edit_o
 use Rattle.run_verdicts.specs.declared.verdict.Field.TheVariants as field
 use Rattle.check_records.specs.Told.{answer_told, edit_told, done_told}
 use Rattle.check_records.specs.declared.editor_steps.Drain.{Drain}
-use Rattle.check_records.specs.Editors.{disabled_by, disabled_in, end_or, disabled_of}
+use Rattle.check_records.specs.Editors.{disabled_by, disabled_in, end_or}
 use Rattle.check_records.specs.Steps.{Goes, Departs}
 
 pub edit_there : (script : List ScriptEdit) (i : ℕ) (s : ScriptEdit) → i < length script → s ≡ get_or script i s → slice_get script i ≡ Some s
@@ -51,14 +50,14 @@ pub drained : (t : Target) (k : Kept) (d : Disabled) (next : Option Call) → St
     → edit_after t (Some d) next ≡ Some (DrainEnd d.line d.space.sub d.space.nsid)
 drained t k d next st is =
     let here : is_draining_phase (phase_at t.tree d.space.sub d.space.nsid) ≡ true =
-        ap (λ (c : Configuration). is_draining_phase (phase_at c d.space.sub d.space.nsid)) st.tree ∙ is in
+    ap (λ (c : Configuration). is_draining_phase (phase_at c d.space.sub d.space.nsid)) st.tree ∙ is in
     rw here refl
 
 pub not_drained : (t : Target) (k : Kept) (d : Disabled) (next : Option Call) → StandsFor k t
     → is_draining_phase (phase_at k.tree d.space.sub d.space.nsid) ≡ false → edit_after t (Some d) next ≡ next
 not_drained t k d next st is =
     let here : is_draining_phase (phase_at t.tree d.space.sub d.space.nsid) ≡ false =
-        ap (λ (c : Configuration). is_draining_phase (phase_at c d.space.sub d.space.nsid)) st.tree ∙ is in
+    ap (λ (c : Configuration). is_draining_phase (phase_at c d.space.sub d.space.nsid)) st.tree ∙ is in
     rw here refl
 
 -- ---- edits
@@ -110,8 +109,12 @@ edit_departs next t script made line s answer reply bytes new is at same does ot
     subst (λ (x : Call). Departs next t (entry_edit x answer) field.Errno) (sym call) (record {
       owed = is;
       lawful = refl;
-      differs = (told-answer answer ∙ sym (reply-answer t s.line s.edit), told-completion answer ∙ sym (reply-completion t s.line s.edit),
-          sym (edit-bytes t s.line s.edit), λ h. other (h ∙ does.reply_is));
+      differs = (
+        told-answer answer ∙ sym (reply-answer t s.line s.edit),
+        told-completion answer ∙ sym (reply-completion t s.line s.edit),
+        sym (edit-bytes t s.line s.edit),
+        λ h. other (h ∙ does.reply_is),
+      );
     })
 
 -- ---- ends of drains

@@ -1,6 +1,5 @@
 -- Whose next entry has a place.
-use Rattle.std.proofs.Common.{◌≡◌, ◌≢◌, ◌≤◌, ◌<◌, ◌⊎◌, ℕ, zero, suc, ◌+◌, Bool, true, false, List, [], ◌∷◌, ◌++◌, length, take, map, get_or, Option, Some, None, slice_get, slice_set, option_map, refl, sym, ap, ap₂, subst, ◌∙◌, arith, true≢false, eqb, eq-eqb, eqb-true}
-use Rattle.std.proofs.lemmas.List.{length-map}
+use Rattle.std.proofs.Common.{◌≡◌, ◌≢◌, ◌<◌, ◌⊎◌, ℕ, zero, suc, ◌+◌, Bool, true, false, List, [], ◌∷◌, ◌++◌, length, take, map, get_or, Option, Some, None, slice_get, slice_set, option_map, refl, sym, ap, ap₂, subst, ◌∙◌, arith, true≢false, eqb, eq-eqb, eqb-true}
 use Rattle.std.proofs.lemmas.Option.{slice_get-map, slice_get-get_or, slice_get_within}
 use Rattle.plan_files.specs.Capsules.{Capsule}
 use Rattle.response_files.specs.Responses.{Response, response_in}
@@ -11,17 +10,15 @@ use Rattle.tree_target.specs.Kept.{Kept, LeavesOthers}
 use Rattle.tree_target.specs.Stands.{StandsFor}
 use Rattle.run_transcript.specs.declared.capsule_files.CapsuleFile.{CapsuleFile}
 use Rattle.run_transcript.specs.declared.scripts.ScriptEdit.{ScriptEdit}
-use Rattle.run_transcript.specs.Runs.{Placed, Run, callers, target_at}
-use Rattle.run_transcript.specs.Turns.{Progress, nothing_done, after_entry, progress_from, progress_of, Editing, nothing_edited, editing_after, next_edit}
+use Rattle.run_transcript.specs.Runs.{Placed, Run, target_at}
+use Rattle.run_transcript.specs.Turns.{Progress, nothing_done, after_entry, progress_of, Editing, nothing_edited, editing_after, next_edit}
 use Rattle.run_verdicts.specs.declared.verdict.Field.{Field}
 use Rattle.run_verdicts.specs.declared.verdict.Field.TheVariants as field
-use Rattle.run_verdicts.specs.Nexts.{editing_from, editing_of}
-use Rattle.run_verdicts.specs.Faults.{IsFault, InOrder}
+use Rattle.run_verdicts.specs.Nexts.{editing_of}
 use Rattle.run_verdicts.proofs.Laying.{not-some}
 use Rattle.run_verdicts.proofs.Serving.{progress-push, editing-push}
 use Rattle.check_records.specs.Told.{IsTold, record_told, entry_told, queue_told, queue_told_from, line_told, editor_told, editor_told_from}
 use Rattle.check_records.specs.Cursors.{capsules_of, progress_at, IsReady}
-use Rattle.check_records.specs.declared.editor_steps.EditCursor.{EditCursor}
 use Rattle.check_records.specs.Editors.{editing_at}
 use Rattle.check_records.specs.declared.cursor.Cursor.{Cursor}
 use Rattle.check_records.specs.declared.cursor.Stage.TheVariants as stages
@@ -30,8 +27,8 @@ use Rattle.check_records.specs.Steps.{Steps}
 use Rattle.check_records.specs.declared.seats.Responses.{Responses}
 use Rattle.check_records.specs.declared.seats.Seat.{Seat}
 use Rattle.check_records.specs.declared.seats.Desk.{Desk}
-use Rattle.check_records.specs.Seats.{Laid, Goes, AreSeated, MayStand, StepsAs, IsSeated, IsBehind, GoesBehind, IsAtDesk, DeskSteps, IsBehindLine, index_of, seat_next, place_in, place_of_line, files_of, all_responses, responses_of, seat_place, place_by, desk_place}
-use Rattle.check_records.proofs.Replaying.{Here, Says, next_here, nobody, fault, fault-order, laid-more, stands-more, GoesOn}
+use Rattle.check_records.specs.Seats.{Laid, Goes, AreSeated, MayStand, StepsAs, IsSeated, IsBehind, IsAtDesk, DeskSteps, index_of, seat_next, place_in, place_of_line, files_of, all_responses, responses_of, seat_place, place_by, desk_place}
+use Rattle.check_records.proofs.Replaying.{Here, Says, next_here, fault, laid-more, stands-more, GoesOn}
 use Rattle.check_records.proofs.Seating.{told_at, line_at, queue_list, list_by, seated-stays}
 
 abbrev pub none_seat : Seat
@@ -200,11 +197,11 @@ nobody-here n i run script files responses journal d seats told len no_line none
           let fat : slice_get (files_of files) q ≡ Some (capsules_of f) = slice_get-map capsules_of files q ∙ ap (λ (o : Option CapsuleFile). option_map capsules_of o) fi in
           let rat : slice_get (all_responses responses) q ≡ Some (responses_of r) = slice_get-map responses_of responses q ∙ ap (λ (o : Option Responses). option_map responses_of o) ri in
           let own : queue_told (suc q) (capsules_of f) (responses_of r) ≡ list =
-              same-list _ _ (sym (ap₂ (λ (a : Option (List Capsule)) (b : Option (List Response)). list_by (suc q) a b) fat rat) ∙ lists) in
+          same-list _ _ (sym (ap₂ (λ (a : Option (List Capsule)) (b : Option (List Response)). list_by (suc q) a b) fat rat) ∙ lists) in
           let at : slice_get (queue_told (suc q) (capsules_of f) (responses_of r)) s.next ≡ Some e =
-              ap₂ (λ (l : List Placed) (k : ℕ). slice_get l k) own (sym (ap seat_next si)) ∙ here.at in
+          ap₂ (λ (l : List Placed) (k : ℕ). slice_get l k) own (sym (ap seat_next si)) ∙ here.at in
           let placed : place_in r.records.items s.next ≡ Some i =
-              record-place r.bytes.items r.records.items s.next i (queue-place (suc q) (capsules_of f) nothing_done (responses_of r) s.next e at ∙ ap (λ (k : ℕ). Some k) here.place) in
+          record-place r.bytes.items r.records.items s.next i (queue-place (suc q) (capsules_of f) nothing_done (responses_of r) s.next e at ∙ ap (λ (k : ℕ). Some k) here.place) in
           none q (ap₂ (λ (a : Option Seat) (b : Option Responses). place_by a b) si ri ∙ placed)
 
 -- ---- the editor's line at its place
@@ -240,15 +237,16 @@ desk-goes n i run script files responses journal l d made' seats old new result 
   by-result : (r : Option Field) → result ≡ r → Goes n i run result new (index_of made' seats)
   by-result None is =
       let done : Steps (next_here run (index_of d.next seats) i 0 (editor_told script journal)) (target_at run i) (line_told script (editing_at script d.cursor) l).entry None new =
-          subst (λ (o : Option Field). Steps (next_here run (index_of d.next seats) i 0 (editor_told script journal)) (target_at run i) (line_told script (editing_at script d.cursor) l).entry o new) is
-          (subst (λ (o : Option Call). Steps o (target_at run i) (line_told script (editing_at script d.cursor) l).entry result new) (sym next-is) (steps (target_at run i) st)) in
-      subst (λ (o : Option Field). Goes n i run o new (index_of made' seats)) (sym is)
-      (laid-more n i run (index_of d.next seats) (index_of made' seats) laid 0 (editor_told script journal) (line_told script (editing_at script d.cursor) l) here says new done (desk-goes-on d.next made' seats (next is)),
-      stands-more n i run (index_of d.next seats) laid lt 0 (editor_told script journal) (line_told script (editing_at script d.cursor) l) here new done)
+      subst (λ (o : Option Field). Steps (next_here run (index_of d.next seats) i 0 (editor_told script journal)) (target_at run i) (line_told script (editing_at script d.cursor) l).entry o new) is
+      (subst (λ (o : Option Call). Steps o (target_at run i) (line_told script (editing_at script d.cursor) l).entry result new) (sym next-is) (steps (target_at run i) st)) in
+      subst (λ (o : Option Field). Goes n i run o new (index_of made' seats)) (sym is) (
+        laid-more n i run (index_of d.next seats) (index_of made' seats) laid 0 (editor_told script journal) (line_told script (editing_at script d.cursor) l) here says new done (desk-goes-on d.next made' seats (next is)),
+        stands-more n i run (index_of d.next seats) laid lt 0 (editor_told script journal) (line_told script (editing_at script d.cursor) l) here new done,
+      )
   by-result (Some f) is =
       let done : Steps (next_here run (index_of d.next seats) i 0 (editor_told script journal)) (target_at run i) (line_told script (editing_at script d.cursor) l).entry (Some f) new =
-          subst (λ (o : Option Field). Steps (next_here run (index_of d.next seats) i 0 (editor_told script journal)) (target_at run i) (line_told script (editing_at script d.cursor) l).entry o new) is
-          (subst (λ (o : Option Call). Steps o (target_at run i) (line_told script (editing_at script d.cursor) l).entry result new) (sym next-is) (steps (target_at run i) st)) in
+      subst (λ (o : Option Field). Steps (next_here run (index_of d.next seats) i 0 (editor_told script journal)) (target_at run i) (line_told script (editing_at script d.cursor) l).entry o new) is
+      (subst (λ (o : Option Call). Steps o (target_at run i) (line_told script (editing_at script d.cursor) l).entry result new) (sym next-is) (steps (target_at run i) st)) in
       subst (λ (o : Option Field). Goes n i run o new (index_of made' seats)) (sym is)
       (fault n i run (index_of d.next seats) laid lt 0 (editor_told script journal) (line_told script (editing_at script d.cursor) l) here says f new done)
 

@@ -1,19 +1,18 @@
 -- What a queue's next call is, where its cursor stands.
-use Rattle.std.proofs.Common.{◌≡◌, ◌≢◌, ◌≤◌, ◌<◌, ℕ, zero, suc, ◌+◌, ◌-◌, Bool, true, false, List, [], ◌∷◌, length, map, get_or, slice_get, Option, Some, None, option_map, refl, sym, ap, subst, ◌∙◌, arith, eqb, eq-eqb}
+use Rattle.std.proofs.Common.{◌≡◌, ◌≢◌, ◌≤◌, ◌<◌, ℕ, zero, suc, ◌-◌, Bool, true, false, List, [], ◌∷◌, length, get_or, slice_get, Option, Some, None, option_map, refl, sym, ap, ◌∙◌, arith, eqb, eq-eqb}
 use Rattle.std.proofs.lemmas.List.{length-map}
 use Rattle.std.proofs.lemmas.Option.{slice_get-map, slice_get-get_or, slice_get_past}
 use Rattle.sqe_cqe.specs.declared.controllers.Bound.{Bound as CodeBound}
 use Rattle.sqe_cqe.specs.declared.controllers.Binding.{Binding as CodeBinding}
 use Rattle.configfs_tree.specs.declared.configuration.Configuration.{Configuration}
-use Rattle.plan_files.specs.Capsules.{Capsule, capsule_in, capsules_in}
+use Rattle.plan_files.specs.Capsules.{Capsule, capsule_in}
 use Rattle.plan_files.specs.declared.capsules.Capsule as program
-use Rattle.run_records.specs.declared.records.Kind.TheVariants as kinds
 use Rattle.tree_target.specs.Kept as kept
 use Rattle.tree_target.specs.Kept.{Kept, bound_from}
 use Rattle.tree_target.specs.Model.{Bound, Binding, Target, Call, Submit, Execute, Poll, Control, binding_in, bound_of}
 use Rattle.tree_target.specs.Stands.{StandsFor, AreBound, IsBoundAs}
 use Rattle.run_transcript.specs.declared.capsule_files.CapsuleFile.{CapsuleFile}
-use Rattle.run_transcript.specs.Turns.{next_capsule, next_by, execute_of, poll_where, is_admin_at, is_admin_bound}
+use Rattle.run_transcript.specs.Turns.{next_capsule, execute_of, poll_where, is_admin_at, is_admin_bound}
 use Rattle.check_records.specs.Told.{capsule_at, poll_told}
 use Rattle.check_records.specs.declared.cursor.Step.{Step}
 use Rattle.check_records.specs.Cursors.{capsules_of, step_call, polled}
@@ -82,10 +81,11 @@ first_poll k t queue taken f o st le is =
 pub through_poll : (k : Kept) (t : Target) (queue taken : ℕ) (f : CapsuleFile) (o : Option Step) → StandsFor k t → true ≡ kept.is_admin_in k queue
     → o ≡ polled (kept.is_admin_in k queue) taken
     → (if_admin : Bool) → is_admin_at t queue ≡ if_admin → if_admin ≡ true × (Some (Poll queue) ≡ option_map (step_call queue (capsules_of f) taken) o)
-through_poll k t queue taken f o st admin is b same =
-    (sym same ∙ admin_is k t queue st ∙ sym admin,
-    ap (λ (x : Bool). poll_where x queue) admin ∙ poll_next (kept.is_admin_in k queue) queue taken (capsules_of f)
-    ∙ ap (λ (x : Option Step). option_map (step_call queue (capsules_of f) taken) x) (sym is))
+through_poll k t queue taken f o st admin is b same = (
+  sym same ∙ admin_is k t queue st ∙ sym admin,
+  ap (λ (x : Bool). poll_where x queue) admin ∙ poll_next (kept.is_admin_in k queue) queue taken (capsules_of f)
+      ∙ ap (λ (x : Option Step). option_map (step_call queue (capsules_of f) taken) x) (sym is),
+)
 
 -- ---- first calls
 pub first_control : (admin : Bool) (queue taken : ℕ) (f : CapsuleFile) (x : program.Capsule) → taken < length f.capsules.items

@@ -1,21 +1,20 @@
 -- A run that was made again up to a place.
-use Rattle.std.proofs.Common.{◌≡◌, ◌≢◌, ◌≤◌, ◌<◌, ℕ, zero, suc, ◌+◌, Bool, true, false, IsTrue, eqb, ltb, List, [], ◌∷◌, ◌++◌, length, take, drop, map, Option, Some, None, slice_get, refl, sym, ap, subst, ◌∙◌, arith, true≢false, eq-eqb, eqb-true, ltb-true, ltb-false, lt-ltb, take-append-drop, inl, inr}
-use Rattle.std.proofs.lemmas.List.{append-nil, map-append}
+use Rattle.std.proofs.Common.{◌≡◌, ◌≢◌, ◌≤◌, ◌<◌, ℕ, zero, suc, ◌+◌, Bool, true, false, IsTrue, eqb, ltb, List, [], ◌∷◌, ◌++◌, length, take, drop, Option, Some, slice_get, refl, sym, ap, subst, ◌∙◌, arith, true≢false, eq-eqb, eqb-true, ltb-true, ltb-false, lt-ltb, take-append-drop, inl}
+use Rattle.std.proofs.lemmas.List.{append-nil}
 use Rattle.std.proofs.lemmas.List.Elements.{filter-append}
 use Rattle.tree_target.specs.Model.{Call, Entry, Target}
 use Rattle.tree_target.specs.Kept.{Kept}
-use Rattle.tree_target.specs.Steps.{is_lawful, entry_of, target_after}
+use Rattle.tree_target.specs.Steps.{is_lawful, target_after}
 use Rattle.tree_target.specs.Legal.{after}
 use Rattle.tree_target.specs.Stands.{StandsFor}
 use Rattle.run_transcript.specs.Runs.{Placed, Run, callers, target_at, target_after_all, calls_of}
 use Rattle.run_verdicts.specs.declared.verdict.Field.{Field}
 use Rattle.run_verdicts.specs.declared.verdict.Field.TheVariants as field
-use Rattle.run_verdicts.specs.Places.{ArePlaces}
-use Rattle.run_verdicts.specs.Nexts.{told, places_of, below, in_places, next_of, front_of, earlier, is_final_of, AreAllBelow}
-use Rattle.run_verdicts.specs.Faults.{ComesNext, InOrder, Agrees, AgreesBelow, IsOtherwise, IsUnlawful, DiffersAt, IsFault, IsRight, AreDone, is_drain_end}
+use Rattle.run_verdicts.specs.Nexts.{below, next_of, front_of, earlier, is_final_of, AreAllBelow}
+use Rattle.run_verdicts.specs.Faults.{InOrder, Agrees, IsOtherwise, IsFault, is_drain_end}
 use Rattle.run_verdicts.proofs.Laying.{all, stand, stand-in, stand-append, stand-cons, stand-one, one-of, one-caller, comes-only, at-place, wanted-most, wanted-no, not-some}
 use Rattle.run_verdicts.proofs.History.{IsAt, get-history}
-use Rattle.check_records.specs.Steps.{Steps, Goes, Departs, Drains}
+use Rattle.check_records.specs.Steps.{Steps, Goes, Departs}
 use Rattle.check_records.specs.Seats.{AreLow, AreHigh, IsCut, Laid}
 
 -- the next entry of a caller stands at the place
@@ -111,11 +110,11 @@ order-not n i run idx laid c list e here refute x o =
     let once : stand i (all (callers run)) ≤ 1 = omega (arith, laid.places i, wanted-most n i) in
     let one = comes-only (callers run) i o.caller c o.list list (take (idx c) list) x e (drop (suc (idx c)) list) once o.is_list here.is_list (split-at list (idx c) e here.at) here.place o.comes in
     let owed : next_of run (target_at run i) o.caller (take (idx c) list) ≡ Some x.entry.call =
-        subst (λ (l : List Placed). next_of run (target_at run i) o.caller l ≡ Some x.entry.call) one.fronts o.owed in
+    subst (λ (l : List Placed). next_of run (target_at run i) o.caller l ≡ Some x.entry.call) one.fronts o.owed in
     let turn : length (take (idx c) list) < front_of run o.caller → i ≡ earlier run o.caller + length (take (idx c) list) =
-        subst (λ (l : List Placed). length l < front_of run o.caller → i ≡ earlier run o.caller + length l) one.fronts o.turn in
+    subst (λ (l : List Placed). length l < front_of run o.caller → i ≡ earlier run o.caller + length l) one.fronts o.turn in
     let last : is_final_of run o.caller (take (idx c) list) ≡ true → AreAllBelow run i =
-        subst (λ (l : List Placed). is_final_of run o.caller l ≡ true → AreAllBelow run i) one.fronts o.last in
+    subst (λ (l : List Placed). is_final_of run o.caller l ≡ true → AreAllBelow run i) one.fronts o.last in
     refute
     (subst (λ (y : Placed). next_here run idx i c list ≡ Some y.entry.call) one.entries
     (subst (λ (q : ℕ). next_of run (target_at run i) q (take (idx c) list) ≡ Some x.entry.call) one.callers owed))
@@ -131,7 +130,7 @@ nobody n i run idx laid none x o =
     let k = idx o.caller in
     let front = below-here n i run idx laid o.caller o.list o.is_list in
     let both : take k o.list ++ drop k o.list ≡ take k o.list ++ x ∷ o.comes.rest =
-        take-append-drop k o.list ∙ o.comes.follows ∙ ap (λ (l : List Placed). l ++ x ∷ o.comes.rest) front in
+    take-append-drop k o.list ∙ o.comes.follows ∙ ap (λ (l : List Placed). l ++ x ∷ o.comes.rest) front in
     none o.caller o.list x (record {
       is_list = o.is_list;
       at = at-drop o.list k x o.comes.rest (cancel (take k o.list) _ _ both);
@@ -162,11 +161,15 @@ fault n i run idx laid lt c list e here says field.Answer new s = (laid.agree, l
 fault n i run idx laid lt c list e here says field.Completion new s = (laid.agree, lt, otherwise n i run idx laid c list e here says field.Completion s)
 fault n i run idx laid lt c list e here says field.Bytes new s = (laid.agree, lt, otherwise n i run idx laid c list e here says field.Bytes s)
 fault n i run idx laid lt c list e here says field.Errno new s = (laid.agree, lt, otherwise n i run idx laid c list e here says field.Errno s)
-fault n i run idx laid lt c list e here says field.Drain new s = (laid.agree, lt, record {
-  entry = e;
-  in_order = in-order n i run idx laid c list e here says s.owed (lawful-any (is_lawful (target_at run i) e.entry.call) (is_drain_end e.entry.call) s.drain);
-  unlawful = s.unlawful;
-})
+fault n i run idx laid lt c list e here says field.Drain new s = (
+  laid.agree,
+  lt,
+  record {
+    entry = e;
+    in_order = in-order n i run idx laid c list e here says s.owed (lawful-any (is_lawful (target_at run i) e.entry.call) (is_drain_end e.entry.call) s.drain);
+    unlawful = s.unlawful;
+  },
+)
 
 -- ---- one place more
 low-more : (i : ℕ) (list : List Placed) → AreLow i list → AreLow (i + 1) list
@@ -293,7 +296,7 @@ whole-list n list k high none = by-rest (drop k list) refl where
 pub all-taken : (n : ℕ) (run : Run) (idx : ℕ → ℕ) → Laid n n run idx → (c : ℕ) (list : List Placed) → slice_get (callers run) c ≡ Some list → take (idx c) list ≡ list
 all-taken n run idx laid c list is_list =
     whole-list n list (idx c) (laid.cut c list is_list).high (λ p le.
-        omega (arith, one-of (callers run) p c list is_list, laid.places p, wanted-no n p le))
+    omega (arith, one-of (callers run) p c list is_list, laid.places p, wanted-no n p le))
 
 history-whole : (h : List Entry) (n : ℕ) → length h ≡ n → take n h ≡ h
 history-whole [] zero len = refl

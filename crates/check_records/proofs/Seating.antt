@@ -1,40 +1,27 @@
 -- The callers of a run that records tell, and one place more of it.
-use Rattle.std.proofs.Common.{◌≡◌, ◌≢◌, ◌≤◌, ◌<◌, ◌⊎◌, ℕ, zero, suc, ◌+◌, ◌-◌, Bool, true, false, List, [], ◌∷◌, length, take, map, get_or, Option, Some, None, slice_get, slice_set, option_map, refl, sym, ap, ap₂, subst, ◌∙◌, arith, inl, inr, true≢false, is_some, eqb, eq-eqb, eqb-true}
-use Rattle.std.proofs.lemmas.List.{length-map}
-use Rattle.std.proofs.lemmas.Option.{slice_get-map, slice_get-get_or, slice_get_within}
+use Rattle.std.proofs.Common.{◌≡◌, ◌≢◌, ◌<◌, ◌⊎◌, ℕ, zero, suc, ◌+◌, List, [], ◌∷◌, length, take, Option, Some, None, slice_get, refl, sym, ap, ap₂, subst, ◌∙◌, arith, inl, inr}
 use Rattle.plan_files.specs.Capsules.{Capsule}
-use Rattle.response_files.specs.Responses.{Response, response_in, responses_in}
-use Rattle.response_files.specs.declared.responses.Record.{Record}
+use Rattle.response_files.specs.Responses.{Response}
 use Rattle.journal_text.specs.declared.lines.JournalLine.{JournalLine}
-use Rattle.journal_text.specs.declared.lines.JournalLine.TheVariants as lines
-use Rattle.tree_target.specs.Model.{Call, Entry, Target}
-use Rattle.tree_target.specs.Kept.{Kept, LeavesOthers, IsIdle, IsHolding}
+use Rattle.tree_target.specs.Model.{Call}
+use Rattle.tree_target.specs.Kept.{Kept, LeavesOthers, IsIdle}
 use Rattle.tree_target.specs.Stands.{StandsFor}
-use Rattle.run_transcript.specs.declared.capsule_files.CapsuleFile.{CapsuleFile}
 use Rattle.run_transcript.specs.declared.scripts.ScriptEdit.{ScriptEdit}
 use Rattle.run_transcript.specs.Runs.{Placed, Run, callers, target_at}
-use Rattle.run_transcript.specs.Turns.{Progress, nothing_done, after_entry, progress_from, progress_of, next_call, Editing, nothing_edited, editing_after, next_edit}
-use Rattle.run_transcript.specs.Served.{front_len, is_final}
+use Rattle.run_transcript.specs.Turns.{Progress, nothing_done, after_entry, progress_from, progress_of, next_call, Editing, editing_after}
+use Rattle.run_transcript.specs.Served.{is_final}
 use Rattle.run_verdicts.specs.declared.verdict.Field.{Field}
 use Rattle.run_verdicts.specs.declared.verdict.Field.TheVariants as field
-use Rattle.run_verdicts.specs.Nexts.{next_of, next_of_file, front_of, front_in, earlier, fronts_before, is_final_of, is_final_in, AreAllBelow, editing_from, editing_of}
-use Rattle.run_verdicts.specs.Faults.{IsFault, InOrder}
+use Rattle.run_verdicts.specs.Nexts.{next_of_file, front_of, front_in, earlier, fronts_before, is_final_of, is_final_in, editing_from}
 use Rattle.run_verdicts.proofs.Laying.{not-some}
-use Rattle.run_verdicts.proofs.Serving.{progress-push, editing-push}
-use Rattle.check_records.specs.Told.{IsTold, record_told, entry_told, queue_told, queue_told_from, queues_told, line_told, editor_told, editor_told_from}
-use Rattle.check_records.specs.declared.cursor.Cursor.{Cursor}
+use Rattle.check_records.specs.Told.{IsTold, record_told, entry_told, queue_told, queue_told_from, queues_told, line_told, editor_told_from}
 use Rattle.check_records.specs.declared.cursor.Stage.{Stage}
 use Rattle.check_records.specs.declared.cursor.Stage.TheVariants as stages
-use Rattle.check_records.specs.Cursors.{capsules_of, progress_at, IsReady, HoldsOwed}
-use Rattle.check_records.specs.declared.editor_steps.EditCursor.{EditCursor}
-use Rattle.check_records.specs.Editors.{editing_at}
-use Rattle.check_records.specs.Steps as step
+use Rattle.check_records.specs.Cursors.{progress_at, HoldsOwed}
 use Rattle.check_records.specs.Steps.{Steps}
-use Rattle.check_records.specs.declared.seats.Responses.{Responses}
 use Rattle.check_records.specs.declared.seats.Seat.{Seat}
-use Rattle.check_records.specs.declared.seats.Desk.{Desk}
-use Rattle.check_records.specs.Seats.{Laid, Goes, MayStand, StepsAs, SeatSteps, IsBehind, GoesBehind, IsSeated, IsBound, IsAtDesk, DeskSteps, IsBehindLine, index_of, seat_next, place_in, place_of_line}
-use Rattle.check_records.proofs.Replaying.{Here, Says, next_here, order-not, nobody, fault, fault-order, laid-more, stands-more, GoesOn}
+use Rattle.check_records.specs.Seats.{Laid, Goes, MayStand, StepsAs, IsSeated, IsBound}
+use Rattle.check_records.proofs.Replaying.{Here, Says, next_here, order-not, fault, fault-order, laid-more, stands-more, GoesOn}
 
 -- ---- what stands at an index
 pub told_at : (queue : ℕ) (file : List Capsule) (p : Progress) (rs : List Response) (k : ℕ) (r : Response) → slice_get rs k ≡ Some r

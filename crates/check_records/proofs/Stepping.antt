@@ -1,11 +1,11 @@
 -- One record of a queue, made again.
-use Rattle.std.proofs.Common.{◌≡◌, ◌≢◌, ◌≤◌, ◌<◌, ◌+◌, ◌-◌, ℕ, zero, suc, Bool, true, false, IsTrue, List, [], ◌∷◌, length, get_or, take, drop, Option, Some, None, option_map, refl, sym, ap, ap₂, subst, ◌∙◌, arith, eqb, eqb-true, eq-eqb, length-drop}
+use Rattle.std.proofs.Common.{◌≡◌, ◌≢◌, ◌≤◌, ◌<◌, ℕ, Bool, true, false, IsTrue, List, length, get_or, take, drop, Option, Some, None, refl, sym, ap, ap₂, subst, ◌∙◌, arith, eqb, eqb-true, eq-eqb, length-drop}
 use Rattle.std.proofs.lemmas.List.{length-take-le}
 use Rattle.sqe_cqe.specs.declared.sqe.Sqe.{Sqe}
 use Rattle.sqe_cqe.specs.Sqe.{direction_of, payload_by, payload_len}
 use Rattle.sqe_cqe.specs.declared.way.Direction.{Direction}
 use Rattle.sqe_cqe.specs.declared.way.Direction.TheVariants.{ToController}
-use Rattle.plan_files.specs.Capsules.{Capsule, IsWholeIn, capsule_in}
+use Rattle.plan_files.specs.Capsules.{Capsule, IsWholeIn}
 use Rattle.plan_files.specs.declared.capsules.Capsule as program
 use Rattle.run_records.specs.declared.records.Kind.{Kind}
 use Rattle.run_records.specs.declared.records.Kind.TheVariants as kinds

@@ -1,5 +1,5 @@
 -- Where a queue's records stand that were made again.
-use Rattle.std.specs.Prelude.{◌≡◌, ◌≢◌, ◌≤◌, ◌<◌, ℕ, ◌+◌, ◌-◌, Bool, true, false, List, length, Option, Some, None, slice_get, All, map}
+use Rattle.std.specs.Prelude.{◌≡◌, ◌≤◌, ◌<◌, ℕ, ◌+◌, ◌-◌, Bool, true, false, List, length, Option, Some, None, All}
 use Rattle.sqe_cqe.specs.declared.codes.TheConstants.{FABRICS}
 use Rattle.plan_files.specs.Capsules.{Capsule, IsWholeIn, capsules_in}
 use Rattle.run_records.specs.declared.records.Kind.{Kind}
@@ -7,7 +7,7 @@ use Rattle.run_records.specs.declared.records.Kind.TheVariants as kinds
 use Rattle.run_transcript.specs.declared.capsule_files.CapsuleFile.{CapsuleFile}
 use Rattle.run_transcript.specs.Turns as turns
 use Rattle.run_transcript.specs.Turns.{Progress, next_capsule, is_admin_at}
-use Rattle.tree_target.specs.Model.{Call, Target}
+use Rattle.tree_target.specs.Model.{Call}
 use Rattle.tree_target.specs.Kept.{Kept, IsIdle, IsHolding}
 use Rattle.tree_target.specs.declared.calls.Reply.{Reply}
 use Rattle.tree_target.specs.declared.calls.Reply.TheVariants as replies

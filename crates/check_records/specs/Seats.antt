@@ -1,11 +1,11 @@
 -- Where the records of all callers stand that were made again, and one place more.
-use Rattle.std.specs.Prelude.{◌≡◌, ◌≢◌, ◌≤◌, ◌<◌, ◌↔◌, ◌⊎◌, ℕ, zero, suc, ◌+◌, Bool, true, false, List, [], ◌∷◌, length, drop, Option, Some, None, option_map, slice_get, map, All, take}
+use Rattle.std.specs.Prelude.{◌≡◌, ◌≤◌, ◌<◌, ◌↔◌, ◌⊎◌, ℕ, zero, suc, ◌+◌, true, List, [], ◌∷◌, length, drop, Option, Some, None, option_map, slice_get, map, All, take}
 use Rattle.plan_files.specs.Capsules.{Capsule}
 use Rattle.response_files.specs.Responses.{Response, IsWholeIn, responses_in}
 use Rattle.journal_text.specs.declared.lines.JournalLine.{JournalLine}
 use Rattle.journal_text.specs.declared.lines.JournalLine.TheVariants as lines
 use Rattle.response_files.specs.declared.responses.Record.{Record}
-use Rattle.tree_target.specs.Kept.{Kept, LeavesOthers}
+use Rattle.tree_target.specs.Kept.{Kept}
 use Rattle.tree_target.specs.Stands.{StandsFor}
 use Rattle.run_transcript.specs.declared.capsule_files.CapsuleFile.{CapsuleFile}
 use Rattle.run_transcript.specs.declared.scripts.ScriptEdit.{ScriptEdit}
@@ -18,12 +18,12 @@ use Rattle.check_records.specs.declared.cursor.Cursor.{Cursor}
 use Rattle.check_records.specs.declared.editor_steps.EditCursor.{EditCursor}
 use Rattle.run_verdicts.specs.declared.verdict.Field.{Field}
 use Rattle.run_verdicts.specs.Places.{ArePlaces}
-use Rattle.run_verdicts.specs.Nexts.{told, places_of, in_places, fronts_before, editing_of, below, AreAllBelow}
+use Rattle.run_verdicts.specs.Nexts.{told, places_of, in_places, fronts_before, editing_of, AreAllBelow}
 use Rattle.run_verdicts.specs.Faults.{AgreesBelow, IsFault}
 use Rattle.check_records.specs.declared.seats.Responses.{Responses}
 use Rattle.check_records.specs.declared.seats.Seat.{Seat}
 use Rattle.check_records.specs.declared.seats.Desk.{Desk}
-use Rattle.check_records.specs.Told.{IsTold, queue_told, editor_told, entry_told, line_told}
+use Rattle.check_records.specs.Told.{queue_told, editor_told, entry_told, line_told}
 use Rattle.check_records.specs.Cursors.{capsules_of, progress_at, IsReady}
 use Rattle.check_records.specs.Editors.{editing_at}
 use Rattle.check_records.specs.Steps.{IsBlankUnlessAnswered, Steps}

@@ -1,5 +1,5 @@
 -- One record made again on the target.
-use Rattle.std.specs.Prelude.{◌≡◌, ◌≢◌, ◌≤◌, ◌<◌, ℕ, ◌+◌, Bool, true, false, IsTrue, List, [], ◌∷◌, length, Option, Some, None}
+use Rattle.std.specs.Prelude.{◌≡◌, ℕ, Bool, true, false, IsTrue, List, Option, Some, None}
 use Rattle.tree_target.specs.Model.{Call, Entry, Target}
 use Rattle.tree_target.specs.Kept.{Kept}
 use Rattle.tree_target.specs.Steps.{is_lawful, entry_of, target_after}

@@ -1,6 +1,6 @@
 -- What the records of a run tell: each record of a response file a call of its queue, each line of
 -- the journal a call of the editor, with its place, its reply and its data.
-use Rattle.std.specs.Prelude.{◌≡◌, ℕ, ◌+◌, ◌==◌, Bool, true, false, if◌then◌else◌, List, [], ◌∷◌, length, Option, Some, None, slice_get}
+use Rattle.std.specs.Prelude.{◌≡◌, ℕ, ◌+◌, ◌==◌, Bool, true, false, if◌then◌else◌, List, [], ◌∷◌, Option, Some, None, slice_get}
 use Rattle.sqe_cqe.specs.declared.cqe.Cqe.{Cqe}
 use Rattle.plan_files.specs.Capsules.{Capsule, capsule_of}
 use Rattle.run_records.specs.declared.records.Answer.{Answer}

@@ -159,9 +159,11 @@ pub fn step_edit(
     ensures others { IfOk result (λ o. o ≡ None → LeavesOthers 0 target.old target.new) }
 {
     match line {
-        JournalLine::Edit { place, line, answer } => {
-            edit_line(alloc, target, script, *place, *line, answer, at)
-        }
+        JournalLine::Edit {
+            place,
+            line,
+            answer,
+        } => { edit_line(alloc, target, script, *place, *line, answer, at) }
         JournalLine::Done { place, line } => Ok(done_line(target, script, *place, *line, at)),
     }
 }

@@ -1,10 +1,13 @@
-//! The records of a finished run, judged on the one sequential target.
+//! The records of a finished run, made again on the one sequential target.
 //!
 //! A record of a response file tells a call of its queue, a line of the journal a call of the editor
-//! (`specs/Told.antt`). They are laid in the order of places and made again, one after another, on
-//! one target: what stands at a place must be its caller's next call there, and what it tells what
-//! the target replies and gives. What a run is, right or wrong at one place first, is said by the
-//! definitions of `run_verdicts`.
+//! (`specs/Told.antt`). Laid in the order of places they are made again, one after another, on one
+//! target, for any number of queues and any interleaving: what stands at a place must be its
+//! caller's next call there, in its front's turn and with no final poll too early, and what it tells
+//! what the target replies and gives. `step_place` makes one place again: it agrees, or its first
+//! fault by the definitions of `run_verdicts` is named. `lowest_bad` names the lowest place that is
+//! missing, doubled or out of range. Work per place doesn't grow with the records; data are compared
+//! where they stand in the response file. After Linux nvmet (core.c, fabrics-cmd.c, configfs.c).
 #![tactic(auto)]
 
 mod calls;
@@ -15,5 +18,13 @@ mod places;
 mod queue_steps;
 mod replay;
 mod seats;
+#[cfg(test)]
+mod tests;
 
+pub use cursor::{Cursor, Stage};
+pub use differences::difference;
+pub use editor_steps::EditCursor;
+pub use places::lowest_bad;
+pub use replay::step_place;
 pub use run_verdicts::{Field, Verdict};
+pub use seats::{Desk, Responses, Seat};

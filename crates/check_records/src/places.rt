@@ -3,7 +3,7 @@ ghost use Rattle.std.specs.Prelude.{◌≡◌, ◌<◌, ◌≤◌, ◌^◌, leng
 ghost use Rattle.std.specs.List.Sorted.{IsNonDecreasing};
 ghost use Rattle.run_verdicts.specs.Places.{ArePlaces, IsBadPlace, IsLowest};
 
-// The lowest bad place of places that ascend.
+/// The lowest bad place of places that ascend: it is missing below `n`, doubled, or not below `n`.
 pub fn lowest_bad(places: &[u32], n: u32) -> Option<u32>
     requires sorted { IsNonDecreasing places.now }
     requires few { length places.now < 2 ^ 32 }

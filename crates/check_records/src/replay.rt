@@ -77,9 +77,12 @@ fn step_desk(
     step_edit(alloc, target, script, line, &mut desk.cursor)
 }
 
-// Makes the entry with this place again: nothing where the place agrees, else its first field that
-// differs.
-fn step_place(
+/// Makes the entry with this place again, whoever's next entry it is: nothing where the place
+/// agrees, else the first field that differs. All places below agree. `bound` is the place from which
+/// on all that is no final poll stands below. The seats are those of queues 1, 2, .. and stand
+/// behind what was made again; where nothing is answered they go on by this entry. On want of memory
+/// the target and the seats are lost. The buffer has room for one transfer.
+pub fn step_place(
     alloc: Global,
     target: &mut Target,
     script: &[ScriptEdit],

@@ -83,5 +83,13 @@ pub fn step_seat(
     }
     let record = &responses.records[seat.next];
     seat.next += 1;
-    step_queue(target, queue, file, record, &responses.bytes, &mut seat.cursor, buffer)
+    step_queue(
+        target,
+        queue,
+        file,
+        record,
+        &responses.bytes,
+        &mut seat.cursor,
+        buffer,
+    )
 }

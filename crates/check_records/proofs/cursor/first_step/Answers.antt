@@ -1,4 +1,4 @@
-use Rattle.std.proofs.Common.{◌≡◌, ◌<◌, ◌≤◌, List, length, get_or, refl, sym, ap, subst, ◌∙◌, arith}
+use Rattle.std.proofs.Common.{◌≡◌, ◌<◌, ◌≤◌, List, length, get_or, refl, ap, subst, ◌∙◌}
 use Rattle.plan_files.specs.declared.capsules.Capsule as program
 use Rattle.run_transcript.specs.Turns.{is_admin_at}
 use Rattle.plan_files.specs.Capsules as plan

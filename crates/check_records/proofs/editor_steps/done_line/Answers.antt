@@ -1,4 +1,3 @@
-use Rattle.std.proofs.Common.{◌≡◌}
 use Rattle.check_records.specs.Editors.{disabled_at, disabled_of}
 use Rattle.check_records.proofs.Editing.{done_goes}
 use Rattle.check_records.proofs.editor_steps.done_line.Goals as goal

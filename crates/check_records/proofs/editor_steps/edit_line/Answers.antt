@@ -1,4 +1,4 @@
-use Rattle.std.proofs.Common.{◌≡◌, true, false, sym, ◌∙◌, true≢false, is_some}
+use Rattle.std.proofs.Common.{sym, ◌∙◌, true≢false}
 use Rattle.check_records.specs.Editors.{disabled_at}
 use Rattle.check_records.proofs.Editing.{edit_there, none_of, next_is, edit_departs}
 use Rattle.check_records.proofs.editor_steps.edit_line.Goals as goal

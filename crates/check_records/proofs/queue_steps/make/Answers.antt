@@ -1,7 +1,6 @@
-use Rattle.std.proofs.Common.{◌≡◌, ◌<◌, length, get_or, sym, subst}
+use Rattle.std.proofs.Common.{sym, subst}
 use Rattle.run_records.specs.declared.records.Kind.{Kind}
 use Rattle.run_records.specs.declared.records.Kind.TheVariants as kinds
-use Rattle.tree_target.specs.declared.calls.Reply.{Reply}
 use Rattle.plan_files.specs.declared.capsules.Capsule as program
 use Rattle.plan_files.specs.Capsules.{IsWholeIn}
 use Rattle.check_records.specs.Cursors.{CanMake, HasMade}
@@ -23,7 +22,7 @@ returns-in-Submit-clause-made c =
     let can : CanMake kinds.Submit c.args.target.now c.args.queue n f = subst (λ (k : Kind). CanMake k c.args.target.now c.args.queue n f) c.in-Submit.is c.requires.can in
     let whole : IsWholeIn f.bytes.items x = subst (λ (y : program.Capsule). IsWholeIn f.bytes.items y) (sym c.index-capsule.ensures) (c.requires.file.whole n x can.1) in
     let made : HasMade kinds.Submit c.submit.result c.submit.new.target c.args.queue n f =
-        holds_by c.submit.result c.submit.new.target c.args.queue n _ _ _ c.submit.ensures.held c.submit.ensures.answered (length_payload f n x can.1 c.index-capsule.ensures whole) in
+    holds_by c.submit.result c.submit.new.target c.args.queue n _ _ _ c.submit.ensures.held c.submit.ensures.answered (length_payload f n x can.1 c.index-capsule.ensures whole) in
     subst (λ (k : Kind). HasMade k c.submit.result c.submit.new.target c.args.queue n f) (sym c.in-Submit.is) made
 
 pub returns-in-Execute-clause-does : goal.returns-in-Execute-clause-does

@@ -1,4 +1,4 @@
-use Rattle.std.proofs.Common.{◌≡◌, ℕ, List, Some, refl, ap, ◌∙◌, subst, sym}
+use Rattle.std.proofs.Common.{ℕ, List, subst}
 use Rattle.response_files.specs.Responses.{response_in}
 use Rattle.check_records.specs.Told.{entry_told}
 use Rattle.check_records.specs.Cursors.{capsules_of, step_call}

@@ -1,5 +1,4 @@
-use Rattle.std.proofs.Common.{◌≡◌, Bool, true, false, Some, Option, refl, sym, ap, ◌∙◌}
-use Rattle.tree_target.specs.Model.{Call, Poll}
+use Rattle.std.proofs.Common.{◌≡◌, Bool, false, refl, sym, ap, ◌∙◌}
 use Rattle.run_transcript.specs.Turns as turns
 use Rattle.run_transcript.specs.Turns.{is_admin_at, next_by}
 use Rattle.check_records.specs.declared.cursor.Stage.{Stage}
@@ -30,7 +29,7 @@ returns-else-is_admin-clause-next c = λ t st.
     let file = capsules_of c.args.file.now in
     let admin : is_admin_at t q ≡ false = admin_is c.args.target.now t q st ∙ sym c.if-is_admin.ensures in
     let same : next_by turns.Through (is_admin_at t q) q file n ≡ next_by turns.Ready (is_admin_at t q) q file n =
-        ap (λ (b : Bool). next_by turns.Through b q file n) admin ∙ sym (ap (λ (b : Bool). next_by turns.Ready b q file n) admin) in
+    ap (λ (b : Bool). next_by turns.Through b q file n) admin ∙ sym (ap (λ (b : Bool). next_by turns.Ready b q file n) admin) in
     ap (λ (s : Stage). next_by (stage_at s) (is_admin_at t q) q file n) c.in-Through.is
     ∙ same
     ∙ c.first_step-in-Through.ensures.next t st
