@@ -5,3 +5,4 @@ pub mod Editing
 pub mod Replaying
 pub mod Seating
 pub mod Finding
+pub mod Finishing

@@ -24,7 +24,7 @@ use Rattle.check_records.specs.declared.seats.Responses.{Responses}
 use Rattle.check_records.specs.declared.seats.Seat.{Seat}
 use Rattle.check_records.specs.declared.seats.Desk.{Desk}
 use Rattle.check_records.specs.Told.{queue_told, editor_told, entry_told, line_told}
-use Rattle.check_records.specs.Cursors.{capsules_of, progress_at, IsReady}
+use Rattle.check_records.specs.Cursors.{capsules_of, progress_at, IsReady, IsInside}
 use Rattle.check_records.specs.Editors.{editing_at}
 use Rattle.check_records.specs.Steps.{IsBlankUnlessAnswered, Steps}
 
@@ -167,3 +167,31 @@ place_of_line (lines.Done place line) = place
 -- the place of the journal's next line
 abbrev pub desk_place : List JournalLine → Desk → Option ℕ
 desk_place journal d = option_map place_of_line (slice_get journal d.next)
+
+-- ---- the end
+abbrev pub EndedAt : Kept → ℕ → CapsuleFile → Seat → Type 0
+EndedAt k q f s = (t : Target) → StandsFor k t
+    → next_call t (suc q) (capsules_of f) (progress_at s.cursor) ≡ None
+
+-- no queue has a call left
+abbrev pub AreEnded : Kept → List CapsuleFile → List Seat → Type 0
+AreEnded k files seats = (q : ℕ) (f : CapsuleFile) (s : Seat) → slice_get files q ≡ Some f
+    → slice_get seats q ≡ Some s → EndedAt k q f s
+
+-- a queue has a call left
+pub record HasOneLeft (k : Kept) (files : List CapsuleFile) (seats : List Seat) : Type 0 where
+  pub queue : ℕ
+  pub file : CapsuleFile
+  pub seat : Seat
+  pub file_at : slice_get files queue ≡ Some file
+  pub seat_at : slice_get seats queue ≡ Some seat
+  pub left : (t : Target) → StandsFor k t
+      → next_call t (suc queue) (capsules_of file) (progress_at seat.cursor) ≡ None → ⊥
+
+abbrev pub AreInside : List CapsuleFile → List Seat → Type 0
+AreInside files seats = (q : ℕ) (f : CapsuleFile) (s : Seat) → slice_get files q ≡ Some f
+    → slice_get seats q ≡ Some s → IsInside (capsules_of f) s.cursor
+
+-- nothing was made again yet
+abbrev pub AreFresh : List Seat → Type 0
+AreFresh seats = All (λ s. s.next ≡ 0) seats

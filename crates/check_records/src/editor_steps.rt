@@ -33,7 +33,7 @@ pub struct Drain {
 }
 
 // The drain that the last edit began, where it is open.
-fn open_drain(target: &Target, script: &[ScriptEdit], at: &EditCursor) -> Option<Drain>
+pub(crate) fn open_drain(target: &Target, script: &[ScriptEdit], at: &EditCursor) -> Option<Drain>
     ensures next { (t : model.Target) (next : Option model.Call) → StandsFor target.now t →
         edit_after t (disabled_at script.now at.now) next ≡ end_or result next }
     ensures is { IfSome result (λ d. disabled_at script.now at.now ≡ Some (disabled_of d)) }
