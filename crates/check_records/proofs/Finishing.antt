@@ -1,6 +1,6 @@
 -- The end of a run that was made again.
-use Rattle.std.proofs.Common.{◌≡◌, ◌≢◌, ◌≤◌, ◌<◌, ◌⊎◌, ℕ, zero, suc, ◌+◌, Bool, true, false, List, [], ◌∷◌, length, take, drop, get_or, Option, Some, None, slice_get, option_map, is_some, refl, sym, ap, ap₂, subst, ◌∙◌, arith, inl, inr, true≢false, ltb, ltb-true, ltb-false}
-use Rattle.std.proofs.lemmas.Option.{slice_get-map, slice_get-get_or, slice_get_within, slice_get_past}
+use Rattle.std.proofs.Common.{◌≡◌, ◌<◌, ℕ, zero, suc, ◌+◌, Bool, true, false, List, [], ◌∷◌, length, take, drop, get_or, Option, Some, None, slice_get, option_map, is_some, refl, sym, ap, ap₂, subst, ◌∙◌, arith, inr, true≢false, ltb, ltb-true, ltb-false}
+use Rattle.std.proofs.lemmas.Option.{slice_get-map, slice_get-get_or, slice_get_within}
 use Rattle.plan_files.specs.Capsules.{Capsule}
 use Rattle.response_files.specs.Responses.{Response}
 use Rattle.journal_text.specs.declared.lines.JournalLine.{JournalLine}
@@ -15,19 +15,18 @@ use Rattle.run_verdicts.specs.declared.verdict.Field.TheVariants as field
 use Rattle.run_verdicts.specs.Places.{ArePlaces}
 use Rattle.run_verdicts.specs.Nexts.{told, places_of, next_of, next_of_file, editing_of}
 use Rattle.run_verdicts.specs.Faults.{AreDone, IsRight, IsFault}
-use Rattle.run_verdicts.proofs.Laying.{all, not-some}
+use Rattle.run_verdicts.proofs.Laying.{not-some}
 use Rattle.run_verdicts.proofs.History.{length-history}
-use Rattle.check_records.specs.Told.{IsTold, queue_told, editor_told}
+use Rattle.check_records.specs.Told.{IsTold, queue_told}
 use Rattle.check_records.specs.Cursors.{capsules_of, progress_at, step_call, IsInside}
 use Rattle.check_records.specs.declared.cursor.Step.{Step}
 use Rattle.check_records.specs.Editors.{editing_at}
 use Rattle.check_records.specs.declared.seats.Responses.{Responses}
 use Rattle.check_records.specs.declared.seats.Seat.{Seat}
 use Rattle.check_records.specs.declared.seats.Desk.{Desk}
-use Rattle.check_records.specs.Seats.{Laid, IsCut, AreHigh, AreSeated, IsSeated, IsAtDesk, AreEnded, AreInside, AreFresh, EndedAt, HasOneLeft, index_of, seat_next, files_of, all_responses, responses_of}
+use Rattle.check_records.specs.Seats.{Laid, IsCut, AreHigh, AreSeated, IsAtDesk, AreEnded, AreInside, AreFresh, EndedAt, HasOneLeft, index_of, seat_next, files_of, all_responses, responses_of}
 use Rattle.check_records.proofs.Replaying.{all-taken, target-end}
 use Rattle.check_records.proofs.Seating.{queue_list, list_by}
-use Rattle.check_records.proofs.Finding.{none_seat}
 
 same-list : (a b : List Placed) → Some a ≡ Some b → a ≡ b
 same-list a b h = cc

@@ -46,7 +46,11 @@ fn are_queues_done(target: &Target, files: &[CapsuleFile], seats: &[Seat]) -> bo
     ensures left { result ≡ false → HasOneLeft target.now files.now seats.now }
 {
     for q in 0..files.len() {
-        if seats[q].cursor.next(target, q as u32 + 1, &files[q]).is_some() {
+        if seats[q]
+            .cursor
+            .next(target, q as u32 + 1, &files[q])
+            .is_some()
+        {
             return false;
         }
     }
@@ -93,7 +97,8 @@ pub fn judge(
     };
     for place in 0..n {
         let found = step_place(
-            alloc, target, script, files, responses, journal, place, bound, seats, &mut desk, buffer,
+            alloc, target, script, files, responses, journal, place, bound, seats, &mut desk,
+            buffer,
         )?;
         match found {
             Some(field) => return Ok(Verdict::NotLegal { place, field }),

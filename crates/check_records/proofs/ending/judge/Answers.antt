@@ -1,10 +1,10 @@
-use Rattle.std.proofs.Common.{◌≡◌, ◌≤◌, ◌<◌, ◌+◌, ℕ, length, Some, None, refl, sym, subst, ◌∙◌, arith}
+use Rattle.std.proofs.Common.{◌≡◌, ℕ, None, refl, subst, ◌∙◌, arith}
 use Rattle.tree_target.specs.Stands.{StandsFor}
-use Rattle.run_transcript.specs.Runs.{Run, target_at}
+use Rattle.run_transcript.specs.Runs.{target_at}
 use Rattle.std.specs.Prelude.{Option}
 use Rattle.run_verdicts.specs.declared.verdict.Field.{Field}
 use Rattle.run_verdicts.specs.Faults.{AreDone}
-use Rattle.check_records.specs.Seats.{Laid, Goes, files_of, all_responses, index_of}
+use Rattle.check_records.specs.Seats.{Laid, Goes, index_of}
 use Rattle.check_records.proofs.Finishing.{fresh-laid, inside, are-done, editor-left, queue-left, judged-right, judged-early}
 use Rattle.check_records.proofs.ending.judge.Goals as goal
 use Rattle.check_records.proofs.ending.judge.Goals.{else-is_editor_done-via-then-is_editor_done+else-are_queues_done, else-is_editor_done-via-else-is_editor_done}
@@ -32,8 +32,8 @@ loop-place-preserved c =
       laid = λ run told bounds places st.
           let k = inv.laid run told bounds places st in
           let goes : Goes c.args.n c.loop-place.place run None c.step_place.new.target (index_of c.step_place.new.desk.next c.step_place.new.seats) =
-              subst (λ (o : Option Field). Goes c.args.n c.loop-place.place run o c.step_place.new.target (index_of c.step_place.new.desk.next c.step_place.new.seats)) none
-              (c.in_ok-found.ensures.goes c.args.n run told bounds c.loop-place-test.true k.0 k.1) in
+          subst (λ (o : Option Field). Goes c.args.n c.loop-place.place run o c.step_place.new.target (index_of c.step_place.new.desk.next c.step_place.new.seats)) none
+          (c.in_ok-found.ensures.goes c.args.n run told bounds c.loop-place-test.true k.0 k.1) in
           goes;
     }
 
@@ -50,7 +50,7 @@ returns-then-are_queues_done c = record {
       let laid : Laid c.args.n c.args.n run (index_of c.loop-place.desk.next c.loop-place.seats) = subst (λ (p : ℕ). Laid c.args.n p run (index_of c.loop-place.desk.next c.loop-place.seats)) is k.0 in
       let stands : StandsFor c.loop-place.target (target_at run c.args.n) = subst (λ (p : ℕ). StandsFor c.loop-place.target (target_at run p)) is k.1 in
       let done : AreDone run = are-done c.args.n run c.args.script.now c.args.files.now c.args.responses.now c.args.journal.now c.loop-place.desk c.loop-place.seats c.loop-place.target told laid stands inv.desk inv.seated inv.seats c.requires.same
-          (c.if-is_editor_done.ensures.done refl (target_at run c.args.n) stands) (c.if-are_queues_done.ensures.done refl) in
+      (c.if-is_editor_done.ensures.done refl (target_at run c.args.n) stands) (c.if-are_queues_done.ensures.done refl) in
       (refl, judged-right c.args.n run c.args.script.now c.args.files.now c.args.responses.now c.args.journal.now c.loop-place.desk c.loop-place.seats c.loop-place.target told laid stands inv.desk inv.seated inv.seats c.requires.same done);
 }
 
