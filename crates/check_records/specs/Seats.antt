@@ -104,7 +104,8 @@ abbrev pub StepsAs : ℕ → List Capsule → Option Response → Cursor → Kep
     → Type 0
 StepsAs queue file None at old result new = ⊥
 StepsAs queue file (Some r) at old result new = (t : Target) → StandsFor old t
-    → Steps (next_call t queue file (progress_at at)) t (entry_told queue file at.taken r) result new
+    → Steps (next_call t queue file (progress_at at)) t (entry_told queue file at.taken r) result
+    new
 
 -- its place isn't one that it may have, or it was made again
 pub record SeatSteps (queue : ℕ) (file : List Capsule) (rs : List Response) (place bound : ℕ)

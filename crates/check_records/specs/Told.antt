@@ -121,8 +121,8 @@ abbrev pub editor_told : List ScriptEdit → List JournalLine → List Placed
 editor_told script journal = editor_told_from script nothing_edited journal
 
 -- ---- the run
--- These records tell this run, of so many places: its script and files are those that were read, its
--- callers did what the records tell, and its history is that in the order of places.
+-- These records tell this run, of so many places: its script and files are those that were read,
+-- its callers did what the records tell, and its history is that in the order of places.
 pub record IsTold (n : ℕ) (run : Run) (script : List ScriptEdit) (files : List (List Capsule))
     (responses : List (List Response)) (journal : List JournalLine) : Type 0 where
   pub script_is : run.script ≡ script

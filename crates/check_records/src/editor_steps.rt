@@ -82,11 +82,13 @@ fn edit_line(
     requires well_formed { All (λ s. IsTrue (is_well_formed s.edit)) script.now }
     ensures steps { IfOk result (λ o. (t : model.Target) → StandsFor target.old t →
         Steps (next_edit t script.now (editing_at script.now at.old)) t
-        (line_told script.now (editing_at script.now at.old) (journal.Edit place line answer.now)).entry
+        (line_told script.now (editing_at script.now at.old)
+        (journal.Edit place line answer.now)).entry
         o target.new) }
     ensures progress { IfOk result (λ o. o ≡ None → editing_at script.now at.new
         ≡ editing_after (editing_at script.now at.old)
-        (line_told script.now (editing_at script.now at.old) (journal.Edit place line answer.now)).entry) }
+        (line_told script.now (editing_at script.now at.old)
+        (journal.Edit place line answer.now)).entry) }
     ensures others { IfOk result (λ o. o ≡ None → LeavesOthers 0 target.old target.new) }
 {
     let _place = place;

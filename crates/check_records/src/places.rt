@@ -7,7 +7,8 @@ ghost use Rattle.run_verdicts.specs.Places.{ArePlaces, IsBadPlace, IsLowest};
 pub fn lowest_bad(places: &[u32], n: u32) -> Option<u32>
     requires sorted { IsNonDecreasing places.now }
     requires few { length places.now < 2 ^ 32 }
-    ensures { MatchOption result (ArePlaces n places.now) (λ p. IsLowest (IsBadPlace n places.now) p) }
+    ensures { MatchOption result (ArePlaces n places.now)
+        (λ p. IsLowest (IsBadPlace n places.now) p) }
 {
     for (index, place) in places.iter().enumerate() {
         let index = index as u32;

@@ -40,7 +40,8 @@ fn is_same_kind(a: Kind, b: Kind) -> bool
 
 // Whether a record names this call.
 fn names(head: &Head, step: &Step) -> bool
-    ensures { Decides result ((head.now.kind ≡ step.now.kind) × (head.now.number ≡ step.now.number)) }
+    ensures { Decides result ((head.now.kind ≡ step.now.kind)
+        × (head.now.number ≡ step.now.number)) }
 {
     is_same_kind(head.kind, step.kind) && head.number == step.number
 }
@@ -84,8 +85,8 @@ fn make(
     }
 }
 
-/// Makes the call of a queue's next record again: nothing where it agrees, else the first field that
-/// differs. The cursor goes on behind it.
+/// Makes the call of a queue's next record again: nothing where it agrees, else the first field
+/// that differs. The cursor goes on behind it.
 pub fn step_queue(
     target: &mut Target,
     queue: u32,

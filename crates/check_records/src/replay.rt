@@ -69,7 +69,8 @@ fn step_desk(
         desk.old.cursor target.old o target.new) }
     ensures next { IfOk result (λ o. o ≡ None →
         (desk.new.next ≡ desk.old.next + 1)
-        × IsBehindLine script.now (slice_get journal.now desk.old.next) desk.old.cursor desk.new.cursor) }
+        × IsBehindLine script.now (slice_get journal.now desk.old.next) desk.old.cursor
+        desk.new.cursor) }
     ensures others { IfOk result (λ o. o ≡ None → LeavesOthers 0 target.old target.new) }
 {
     let line = &journal[desk.next];
@@ -78,10 +79,10 @@ fn step_desk(
 }
 
 /// Makes the entry with this place again, whoever's next entry it is: nothing where the place
-/// agrees, else the first field that differs. All places below agree. `bound` is the place from which
-/// on all that is no final poll stands below. The seats are those of queues 1, 2, .. and stand
-/// behind what was made again; where nothing is answered they go on by this entry. On want of memory
-/// the target and the seats are lost. The buffer has room for one transfer.
+/// agrees, else the first field that differs. All places below agree. From the place `bound` on all
+/// that is no final poll stands below. The seats are those of queues 1, 2, .. and stand behind what
+/// was made again; where nothing is answered they go on by this entry. On want of memory the target
+/// and the seats are lost. The buffer has room for one transfer.
 pub fn step_place(
     alloc: Global,
     target: &mut Target,

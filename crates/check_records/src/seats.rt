@@ -74,7 +74,8 @@ pub fn step_seat(
         seat.old target.old result target.new }
     ensures next { result ≡ None → GoesBehind queue (capsules_of file.now)
         (responses_of responses.now) seat.old seat.new }
-    ensures ready { result ≡ None → IsReady queue (capsules_of file.now) target.new seat.new.cursor }
+    ensures ready { result ≡ None →
+        IsReady queue (capsules_of file.now) target.new seat.new.cursor }
     ensures others { result ≡ None → LeavesOthers queue target.old target.new }
     ensures room { result ≡ None → buffer.new.room ≡ buffer.old.room }
 {

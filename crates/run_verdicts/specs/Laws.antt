@@ -6,7 +6,8 @@ use Rattle.run_verdicts.specs.declared.verdict.Field.{Field}
 use Rattle.run_verdicts.specs.Nexts.{told, in_places}
 use Rattle.run_verdicts.specs.Faults.{IsRight, IsFault}
 
--- the history of a run is what its callers tell, in the order of places, and each file has its queue
+-- the history of a run is what its callers tell, in the order of places, and each file has its
+-- queue
 pub record IsLaidOut (n : ℕ) (run : Run) : Type 0 where
   pub history_is : run.history ≡ in_places n (told run)
   pub queues : length run.queues ≡ length run.files
