@@ -1,5 +1,5 @@
 -- One line of the journal, made again.
-use Rattle.std.proofs.Common.{◌≡◌, ◌<◌, ℕ, true, false, List, [], length, get_or, Option, Some, None, slice_get, is_some, refl, sym, ap, subst, ◌∙◌, eqb, eq-eqb}
+use Rattle.std.proofs.Common.{◌≡◌, ◌<◌, ◌+◌, ℕ, true, false, List, [], length, get_or, Option, Some, None, slice_get, is_some, refl, sym, ap, subst, ◌∙◌, eqb, eq-eqb}
 use Rattle.std.proofs.lemmas.Option.{slice_get-get_or}
 use Rattle.run_records.specs.declared.records.Answer.TheVariants as answers
 use Rattle.journal_text.specs.declared.lines.Answer.{Answer as EditAnswer}
@@ -17,11 +17,12 @@ use Rattle.tree_target.specs.Steps.{is_draining_phase, reply_of, bytes_of, edite
 use Rattle.tree_target.specs.Stands.{StandsFor, Does}
 use Rattle.run_transcript.specs.declared.scripts.ScriptEdit.{ScriptEdit}
 use Rattle.run_transcript.specs.Printing.{answer_of, completion_of, no_completion}
-use Rattle.run_transcript.specs.Turns.{Disabled, disabled_on, edit_after, edit_on}
+use Rattle.run_transcript.specs.Turns.{Disabled, Editing, disabled_on, edit_after, edit_on, editing_after}
 use Rattle.run_verdicts.specs.declared.verdict.Field.TheVariants as field
 use Rattle.check_records.specs.Told.{answer_told, edit_told, done_told}
 use Rattle.check_records.specs.declared.editor_steps.Drain.{Drain}
-use Rattle.check_records.specs.Editors.{disabled_by, disabled_in, end_or}
+use Rattle.check_records.specs.declared.editor_steps.EditCursor.{EditCursor}
+use Rattle.check_records.specs.Editors.{disabled_by, disabled_in, editing_at, end_or}
 use Rattle.check_records.specs.Steps.{Goes, Departs}
 
 pub edit_there : (script : List ScriptEdit) (i : ℕ) (s : ScriptEdit) → i < length script → s ≡ get_or script i s → slice_get script i ≡ Some s
@@ -101,6 +102,12 @@ pub next_is : (t : Target) (script : List ScriptEdit) (made : ℕ) (s : ScriptEd
 next_is t script made s o disabled next none at =
     next ∙ ap (λ (x : Option Drain). end_or x (edit_on (slice_get script made))) none ∙ ap edit_on at
 
+same-entry : (t : Target) (call : Call) (reply : Reply) (bytes : List ℕ) → reply ≡ reply_of t call → bytes ≡ bytes_of t call
+    → ◌≡◌ {A = Entry} (record { call = call; reply = reply; bytes = bytes }) (entry_of t call)
+same-entry t call reply bytes r b =
+    ap (λ (x : Reply). let e : Entry = record { call = call; reply = x; bytes = bytes } in e) r
+    ∙ ap (λ (x : List ℕ). let e : Entry = record { call = call; reply = reply_of t call; bytes = x } in e) b
+
 pub edit_departs : (next : Option Call) (t : Target) (script : List ScriptEdit) (made line : ℕ) (s : ScriptEdit) (answer : EditAnswer) (reply : Reply) (bytes : List ℕ) (new : Kept)
     → next ≡ Some (AnEdit s.line s.edit) → slice_get script made ≡ Some s → s.line ≡ line → Does t (AnEdit s.line s.edit) reply bytes new
     → (answer_told answer ≡ reply → ⊥) → Departs next t (entry_edit (edit_told (slice_get script made) line) answer) field.Errno
@@ -117,6 +124,27 @@ edit_departs next t script made line s answer reply bytes new is at same does ot
       );
     })
 
+pub edit_goes : (next : Option Call) (t : Target) (script : List ScriptEdit) (made line : ℕ) (s : ScriptEdit) (answer : EditAnswer) (reply : Reply) (new : Kept)
+    → next ≡ Some (AnEdit s.line s.edit) → slice_get script made ≡ Some s → s.line ≡ line → Does t (AnEdit s.line s.edit) reply [] new
+    → answer_told answer ≡ reply → Goes next t (entry_edit (edit_told (slice_get script made) line) answer) new
+edit_goes next t script made line s answer reply new is at same does told =
+    let call : edit_told (slice_get script made) line ≡ AnEdit s.line s.edit = ap (λ (o : Option ScriptEdit). edit_told o line) at ∙ told-edit s line same in
+    subst (λ (x : Call). Goes next t (entry_edit x answer) new) (sym call) (record {
+      owed = is;
+      lawful = does.lawful;
+      is = same-entry t (AnEdit s.line s.edit) (answer_told answer) [] (told ∙ sym does.reply_is) (sym does.bytes_are);
+      stands = does.stands;
+    })
+
+-- the cursor stands behind the edit
+pub edit_progress : (script : List ScriptEdit) (at : EditCursor) (line : ℕ) (s : ScriptEdit) (answer : EditAnswer) → slice_get script at.made ≡ Some s → s.line ≡ line
+    → editing_at script (record { made = at.made + 1; «open» = Some at.made })
+    ≡ editing_after (editing_at script at) (entry_edit (edit_told (slice_get script at.made) line) answer)
+edit_progress script at line s answer there same =
+    let call : edit_told (slice_get script at.made) line ≡ AnEdit s.line s.edit = ap (λ (o : Option ScriptEdit). edit_told o line) there ∙ told-edit s line same in
+    ap (λ (d : Option Disabled). let e : Editing = record { made = at.made + 1; disabled = d } in e) (ap disabled_by there)
+    ∙ sym (ap (λ (x : Call). editing_after (editing_at script at) (entry_edit x answer)) call)
+
 -- ---- ends of drains
 drain-reply : (t : Target) (line nsid : ℕ) (sub : List ℕ) → replies.Ended ≡ reply_of t (DrainEnd line sub nsid)
 unfolding reply_of
@@ -125,12 +153,6 @@ drain-reply t line nsid sub = refl
 drain-bytes : (t : Target) (line nsid : ℕ) (sub : List ℕ) → [] ≡ bytes_of t (DrainEnd line sub nsid)
 unfolding bytes_of
 drain-bytes t line nsid sub = refl
-
-same-entry : (t : Target) (call : Call) (reply : Reply) (bytes : List ℕ) → reply ≡ reply_of t call → bytes ≡ bytes_of t call
-    → ◌≡◌ {A = Entry} (record { call = call; reply = reply; bytes = bytes }) (entry_of t call)
-same-entry t call reply bytes r b =
-    ap (λ (x : Reply). let e : Entry = record { call = call; reply = x; bytes = bytes } in e) r
-    ∙ ap (λ (x : List ℕ). let e : Entry = record { call = call; reply = reply_of t call; bytes = x } in e) b
 
 pub told_done : (o : Option Disabled) (d : Disabled) (line : ℕ) → o ≡ Some d → d.line ≡ line → done_told o line ≡ DrainEnd d.line d.space.sub d.space.nsid
 told_done o d line is same =
