@@ -4,7 +4,7 @@ ghost use Rattle.std.specs.Option.{option_copied};
 ghost use Rattle.configfs_tree.specs.Phases.{phase_at};
 ghost use Rattle.tree_target.specs.Edits.{is_well_formed, disables};
 ghost use Rattle.tree_target.specs.Model.{AnEdit, DrainEnd};
-ghost use Rattle.tree_target.specs.Steps.{disk_at, is_enabled_phase, may_end};
+ghost use Rattle.tree_target.specs.Steps.{disk_at, is_draining_phase, is_enabled_phase, may_end};
 ghost use Rattle.tree_target.specs.Kept.{LeavesOthers, holds};
 ghost use Rattle.tree_target.specs.Lawful.{IsLawfulAs, EndsNothing, begins, ends};
 ghost use Rattle.tree_target.specs.Stands.{Simulates, noted_by, reply_from};
@@ -64,6 +64,17 @@ impl Target {
     {
         match self.tree.phase(sub, nsid) {
             Some(Phase::Draining) => is_free(&self.held, disk_at(&self.tree, sub, nsid)),
+            None | Some(Phase::Off) | Some(Phase::Enabled) => false,
+        }
+    }
+
+    /// Whether this namespace is draining: it was disabled, and its drain hasn't ended. Takes no
+    /// memory.
+    pub fn is_draining(&self, sub: &Nqn, nsid: u32) -> bool
+        ensures { result ≡ is_draining_phase (phase_at self.now.tree sub.now nsid) }
+    {
+        match self.tree.phase(sub, nsid) {
+            Some(Phase::Draining) => true,
             None | Some(Phase::Off) | Some(Phase::Enabled) => false,
         }
     }
