@@ -1,5 +1,5 @@
 // The configuration of the tests.
-use configfs_tree::{Attr, Folder, FolderEdit, Nqn, Tree};
+use configfs_tree::{Attr, Change, Folder, FolderEdit, Nqn, Tree};
 use mem_bdev::{DiskLine, Name};
 use std::alloc::Global;
 use std::process::Abort;
@@ -27,25 +27,34 @@ fn folder(rt: &impl Abort, alloc: Global, at: At) -> Folder {
     }
 }
 
-fn apply(rt: &impl Abort, alloc: Global, tree: &mut Tree, e: &FolderEdit) {
+fn apply(rt: &impl Abort, alloc: Global, tree: &mut Tree, e: &FolderEdit) -> Change {
     assert!(rt; e.is_fitting(), "an edit that may be read");
-    assert!(rt; tree.apply_folder(alloc, e).is_ok(), "an accepted edit");
+    match tree.apply_folder(alloc, e) {
+        Ok(change) => change,
+        Err(_) => {
+            assert!(rt; false, "an accepted edit");
+            Change::none()
+        }
+    }
 }
 
 /// Makes a folder.
-pub fn make(rt: &impl Abort, alloc: Global, tree: &mut Tree, at: At) {
-    apply(rt, alloc, tree, &FolderEdit::Mkdir(folder(rt, alloc, at)));
+pub fn make(rt: &impl Abort, alloc: Global, tree: &mut Tree, at: At) -> Change {
+    apply(rt, alloc, tree, &FolderEdit::Mkdir(folder(rt, alloc, at)))
 }
 
 /// Writes an attribute.
-pub fn set(rt: &impl Abort, alloc: Global, tree: &mut Tree, at: At, attr: Attr, value: &str) {
+pub fn set(
+    rt: &impl Abort,
+    alloc: Global,
+    tree: &mut Tree,
+    at: At,
+    attr: Attr,
+    value: &str,
+) -> Change {
     let value = Name::copied(alloc, value.as_bytes()).expect(rt, "memory");
-    apply(
-        rt,
-        alloc,
-        tree,
-        &FolderEdit::Set(folder(rt, alloc, at), attr, value),
-    );
+    let e = FolderEdit::Set(folder(rt, alloc, at), attr, value);
+    apply(rt, alloc, tree, &e)
 }
 
 fn line(rt: &impl Abort, alloc: Global, path: &str, shift: u8, blocks: u64) -> DiskLine {

@@ -3,9 +3,10 @@ use crate::made::{At, empty, make, set};
 use configfs_tree::Attr::*;
 use configfs_tree::{Attr, Tree};
 use mem_bdev::Disk;
-use ns_table::layout::{ana_word, changes_word, ns_word, ready_word, shown_word};
+use ns_table::layout::{ana_word, changes_word, ns_word, port_stamp_word, ready_word, shown_word};
 use ns_table::look::RowLook;
 use ns_table::opening::{opened_words, opening};
+use ns_table::patches::{Patch, fits, put_change};
 use ns_table::rows::ListedRows;
 use sqe_cqe::{Controllers, Look};
 use std::alloc::Global;
@@ -42,10 +43,10 @@ const SET: &[(At, Attr, &str)] = &[
 fn configured(rt: &impl Abort, alloc: Global) -> Tree {
     let mut tree = empty(rt, alloc);
     for at in MADE {
-        make(rt, alloc, &mut tree, *at);
+        let _ = make(rt, alloc, &mut tree, *at);
     }
     for (at, attr, value) in SET {
-        set(rt, alloc, &mut tree, *at, *attr, value);
+        let _ = set(rt, alloc, &mut tree, *at, *attr, value);
     }
     tree
 }
@@ -179,5 +180,78 @@ fn a_table_is_opened_with_words_slots_and_quotas(rt: HostRuntime) -> Result<(), 
     assert_eq!(rt; opened.rows.len(), 361_592);
     assert_eq!(rt; opened.slots.len(), 0);
     assert_eq!(rt; opened.quotas.as_slice(), [9, 4].as_slice());
+    Ok(())
+}
+
+// Puts a patch's words in place.
+fn put_words(rt: &impl Abort, words: &mut [u64], patch: &Patch) {
+    for (at, word) in patch.words() {
+        let at = *at as usize;
+        assert!(rt; at < words.len());
+        words[at] = *word;
+    }
+}
+
+// Whether the word at a position is a stamp, which fresh words have as 0.
+fn is_stamp(at: usize) -> bool {
+    (at >= 96 && at < 120) || (at >= 1_144 && (at - 1_144) % 11 == 10)
+}
+
+// The words are those of the tree as it is, but for stamps.
+fn check_fresh(rt: &impl Abort, words: &[u64], fresh: &[u64]) {
+    assert_eq!(rt; words.len(), fresh.len());
+    for at in 0..words.len() {
+        assert!(rt; is_stamp(at) || words[at] == fresh[at], "word {at}");
+    }
+}
+
+const EDITS: &[(At, Attr, &str)] = &[
+    (Space("s", 1), DevicePath, "/dev/ram0"),
+    (
+        Space("s", 1),
+        DeviceNguid,
+        "00112233-4455-6677-8899-aabbccddeeff",
+    ),
+    (Space("s", 1), Enable, "1"),
+    (Space("s", 1), Enable, "1"),
+    (Space("s", 7), AnaGrpid, "2"),
+    (Group(1, 2), AnaState, "persistent-loss"),
+    (Port(9), Trtype, "loop"),
+    (Space("s", 1), Enable, "0"),
+    (Space("r", 2048), DevicePath, "/dev/ram1"),
+    (Space("r", 2048), Enable, "1"),
+];
+
+#[test]
+fn patched_words_are_those_of_a_fresh_opening(rt: HostRuntime) -> Result<(), Fail> {
+    let mut tree = empty(&rt, rt.alloc());
+    let controllers = Controllers::simple(rt.alloc())?;
+    let disks = disks(rt.alloc())?;
+    let mut words = opened_words(rt.alloc(), &tree, &controllers, &disks)?;
+    let mut patch = Patch::new(rt.alloc())?;
+    let mut serial: u32 = 0;
+    for at in MADE {
+        let change = make(&rt, rt.alloc(), &mut tree, *at);
+        serial = u32::wrapping_add(serial, 1);
+        assert!(rt; fits(&change));
+        put_change(&tree, &controllers, &disks, &change, serial, &mut patch);
+        put_words(&rt, &mut words, &patch);
+        let fresh = opened_words(rt.alloc(), &tree, &controllers, &disks)?;
+        check_fresh(&rt, &words, &fresh);
+    }
+    for (at, attr, value) in EDITS {
+        let change = set(&rt, rt.alloc(), &mut tree, *at, *attr, value);
+        serial = u32::wrapping_add(serial, 1);
+        assert!(rt; fits(&change));
+        put_change(&tree, &controllers, &disks, &change, serial, &mut patch);
+        put_words(&rt, &mut words, &patch);
+        let fresh = opened_words(rt.alloc(), &tree, &controllers, &disks)?;
+        check_fresh(&rt, &words, &fresh);
+    }
+    // the last change of namespace 1 of s is the 17th, of port 1 the 15th
+    check(&rt, &words, ns_word(0, 1, 10), 17);
+    check(&rt, &words, port_stamp_word(0), 15);
+    check(&rt, &words, shown_word(0), 0);
+    check(&rt, &words, shown_word(1), 1);
     Ok(())
 }
