@@ -12,3 +12,4 @@ pub mod Changing
 pub mod Patched
 pub mod PatchParts
 pub mod Whole
+pub mod Once

@@ -1,6 +1,6 @@
 -- The words that a change is published with.
 use Rattle.std.specs.Prelude.{◌≡◌, ◌⊎◌, ◌<◌, ℕ, List, [], ◌∷◌, ◌++◌, map, Option, Some, None}
-use Rattle.std.specs.List.{Contains, range_with_len}
+use Rattle.std.specs.List.{Contains, range_with_len, slice_get}
 use Rattle.mem_bdev.specs.Blocks.{Blocks}
 use Rattle.sqe_cqe.specs.declared.controllers.ControllerRow.{ControllerRow}
 use Rattle.configfs_tree.specs.Standing.{IsStanding}
@@ -101,3 +101,9 @@ PatchesAreWhole = (t u : Configuration) (c : Change) (controllers : List Control
     → Tells t u c → Keeps t u → (p : Place) → IsWithin p
     → (word_for (shape_before u controllers blocks (stamps_after serial c stamps)) p
     ≡ word_for (shape_before t controllers blocks stamps) p) ⊎ Contains (told_places u c) p
+
+-- no place is in a patch twice
+abbrev pub PatchesAreOnce : Type 0
+PatchesAreOnce = (u : Configuration) (c : Change) → (c.ana_port ≡ None) ⊎ (c.ana_subsystem ≡ None)
+    → (i j : ℕ) (p : Place) → slice_get (told_places u c) i ≡ Some p
+    → slice_get (told_places u c) j ≡ Some p → i ≡ j

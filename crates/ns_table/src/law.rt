@@ -2,7 +2,7 @@
 ghost use Rattle.ns_table.specs.Changed.{WordsChangeWhereTold};
 ghost use Rattle.ns_table.specs.Follows.{WordsFollowSettings};
 ghost use Rattle.ns_table.specs.Looked.{LookOfWordsIsTheTrees};
-ghost use Rattle.ns_table.specs.Patches.{PatchesAreWhole};
+ghost use Rattle.ns_table.specs.Patches.{PatchesAreOnce, PatchesAreWhole};
 ghost use Rattle.ns_table.specs.Shown.{EnabledIsShown, ShownIsEnabled};
 ghost use Rattle.ns_table.specs.Slots.{SlotsAreExtents};
 ghost use Rattle.ns_table.specs.Words.{WordsArePlaced};
@@ -48,4 +48,9 @@ pub fn words_change_where_told()
 /// A word that an edit changes has its place among those that its patch has.
 pub fn patches_are_whole()
     ensures { PatchesAreWhole }
+{}
+
+/// No place is in a patch twice, where an ANA change is of a port or of a subsystem.
+pub fn patches_are_once()
+    ensures { PatchesAreOnce }
 {}
