@@ -222,8 +222,7 @@ fn is_below(most: u8, number: Option<u8>) -> bool
     }
 }
 
-/// Whether what a change names is within the limits of the table, as all that an edit of a tree
-/// answers is.
+/// Whether what a change names is within the limits of the table.
 pub fn fits(change: &Change) -> bool
     ensures { IsTrue result → FitsChange change.now }
 {
