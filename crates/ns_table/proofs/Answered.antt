@@ -14,7 +14,7 @@ use Rattle.configfs_tree.proofs.Positions.{port_positions}
 use Rattle.tree_target.specs.Views.{seen_of, space_in, group_in, group_state}
 use Rattle.ns_table.specs.Positions.{at, Ready, Changes, SubsystemStamp, PortStamp, State, Space, space_at, IsGroup, IsController}
 use Rattle.ns_table.specs.Words.{Shape, bit, state_word, words_of}
-use Rattle.ns_table.specs.Looked.{is_nsid, is_group, is_controller, state_in, stamp_in, seen_in, words_answers, shape_answers, FitsTable, LookOfWordsIsTheTrees}
+use Rattle.ns_table.specs.Looked.{is_nsid, is_group, is_controller, state_in, stamp_in, seen_in, words_answers, shape_answers, FitsTable, LookOfWordsIsTheShapes}
 use Rattle.ns_table.proofs.Limits.{nsid-cases, group-cases, controller-cases, lt-cases, if-true, if-false}
 use Rattle.ns_table.proofs.Spaces.{seen-again, stamp-again, fine-seen, nothing-outside, found-passes}
 use Rattle.ns_table.proofs.Placed.{placed}
@@ -135,7 +135,7 @@ ana-stamp-is x s p fits =
     ap (λ (k : ℕ). max k (if nat_lt p 8 then of_port else 0)) a ∙ ap (λ (k : ℕ). max (if nat_lt s 16 then x.stamps.subsystem s else 0) k) b
 
 -- ---- all answers
-pub answered : LookOfWordsIsTheTrees
+pub answered : LookOfWordsIsTheShapes
 answered x serial fits =
     let changes = (placed x).each Changes tt in
     λ i. record {

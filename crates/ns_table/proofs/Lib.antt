@@ -13,3 +13,5 @@ pub mod Patched
 pub mod PatchParts
 pub mod Whole
 pub mod Once
+pub mod Kept
+pub mod Noted

@@ -6,6 +6,7 @@ use Rattle.mem_bdev.specs.Blocks.{Blocks}
 use Rattle.mem_bdev.specs.declared.limits.TheConstants.{MAX_DISK_BYTES}
 use Rattle.sqe_cqe.specs.Answers.{Answers}
 use Rattle.sqe_cqe.specs.One.{plain_offers}
+use Rattle.sqe_cqe.specs.declared.controllers.ControllerRow.{ControllerRow}
 use Rattle.sqe_cqe.specs.declared.rows.Ana.{Ana}
 use Rattle.sqe_cqe.specs.declared.rows.Ana.TheVariants.{Optimized, NonOptimized, Inaccessible, PersistentLoss, Changing}
 use Rattle.sqe_cqe.specs.declared.rows.NsRow.{NsRow}
@@ -14,9 +15,12 @@ use Rattle.sqe_cqe.specs.declared.rows.Seen.TheVariants.{NotConfigured, Off, On}
 use Rattle.configfs_rows.specs.declared.namespaces.NamespaceRow.{NamespaceRow}
 use Rattle.configfs_rows.specs.declared.subsystems.SubsystemRow.{SubsystemRow}
 use Rattle.configfs_tree.specs.Standing.{IsStanding}
+use Rattle.configfs_tree.specs.declared.configuration.Configuration.{Configuration}
+use Rattle.change_stamps.specs.Stamps.{Stamps as Kept, no_stamps as nothing_kept}
 use Rattle.tree_target.specs.Looked.{tree_answers}
 use Rattle.ns_table.specs.Positions.{at, Ready, Changes, SubsystemStamp, PortStamp, State, space_at}
 use Rattle.ns_table.specs.Words.{Stamps, Shape, words_of}
+use Rattle.ns_table.specs.Kept.{shape_of, HavePlaces}
 
 -- what there are words for
 abbrev pub is_nsid : ℕ → ℕ → Bool
@@ -28,9 +32,9 @@ is_group port group = nat_lt port 8 && (nat_lt 0 group && nat_lt group 129)
 abbrev pub is_controller : ℕ → Bool
 is_controller ctrl = nat_lt 0 ctrl && nat_lt ctrl 32
 
--- a configuration's answers with its stamps, at a serial
+-- a configuration's answers with these stamps, whoever keeps them, at a serial
 abbrev pub shape_answers : Shape → ℕ → Answers
-shape_answers x serial = record (tree_answers x.tree x.controllers x.blocks) {
+shape_answers x serial = record (tree_answers x.tree x.controllers x.blocks nothing_kept) {
   ns_stamp = λ s n. if is_nsid s n then x.stamps.space s n else 0;
   ana_stamp = λ s p. max (if nat_lt s 16 then x.stamps.subsystem s else 0)
       (if nat_lt p 8 then x.stamps.port p else 0);
@@ -126,6 +130,14 @@ pub record FitsTable (x : Shape) : Type 0 where
   pub disks : (i : ℕ) (d : Blocks) → slice_get x.blocks i ≡ Some d → IsDisk d
 
 -- the look of a configuration's words is the look of the configuration
-abbrev pub LookOfWordsIsTheTrees : Type 0
-LookOfWordsIsTheTrees = (x : Shape) (serial : ℕ) → FitsTable x
+abbrev pub LookOfWordsIsTheShapes : Type 0
+LookOfWordsIsTheShapes = (x : Shape) (serial : ℕ) → FitsTable x
     → words_answers (words_of x) serial ≡ shape_answers x serial
+
+-- .. which is the look of the tree with the stamps that its target keeps, at their serial
+abbrev pub LookOfWordsIsTheTrees : Type 0
+LookOfWordsIsTheTrees = (t : Configuration) (controllers : List ControllerRow)
+    (blocks : List Blocks) (stamps : Kept) → FitsTable (shape_of t controllers blocks stamps)
+    → HavePlaces stamps
+    → words_answers (words_of (shape_of t controllers blocks stamps)) stamps.serial
+    ≡ tree_answers t controllers blocks stamps

@@ -1,7 +1,8 @@
 //! Laws of the words. A law is the contract of a function that does nothing.
 ghost use Rattle.ns_table.specs.Changed.{WordsChangeWhereTold};
 ghost use Rattle.ns_table.specs.Follows.{WordsFollowSettings};
-ghost use Rattle.ns_table.specs.Looked.{LookOfWordsIsTheTrees};
+ghost use Rattle.ns_table.specs.Looked.{LookOfWordsIsTheShapes, LookOfWordsIsTheTrees};
+ghost use Rattle.ns_table.specs.Noted.{NotedIsPublished, NothingIsStamped, PlacesFromTheStart, PlacesStay, SerialsFromTheStart, SerialsStay};
 ghost use Rattle.ns_table.specs.Patches.{PatchesAreOnce, PatchesAreWhole};
 ghost use Rattle.ns_table.specs.Shown.{EnabledIsShown, ShownIsEnabled};
 ghost use Rattle.ns_table.specs.Slots.{SlotsAreExtents};
@@ -12,8 +13,15 @@ pub fn words_are_placed()
     ensures { WordsArePlaced }
 {}
 
-/// What a configuration's words answer is what its tree, its controllers, its disks and its stamps
-/// answer: of each of the twelve questions of a look.
+/// What a configuration's words answer is what its tree, its controllers, its disks and any stamps
+/// and serial answer: of each of the twelve questions of a look.
+pub fn look_of_words_is_the_shapes()
+    ensures { LookOfWordsIsTheShapes }
+{}
+
+/// What the words of a target's configuration answer, at the serial of its stamps, is what a look at
+/// its tree, its controllers, its disks and the stamps that it keeps answers: of each of the twelve
+/// questions of a look.
 pub fn look_of_words_is_the_trees()
     ensures { LookOfWordsIsTheTrees }
 {}
@@ -53,4 +61,17 @@ pub fn patches_are_whole()
 /// No place is in a patch twice, where an ANA change is of a port or of a subsystem.
 pub fn patches_are_once()
     ensures { PatchesAreOnce }
+{}
+
+/// The stamps that a target keeps are those of its words: none as a run begins, and after a
+/// published change that was noted those that the change is published with. What
+/// `look_of_words_is_the_trees` asks of them, a place for each position and no other and that they
+/// are serials, holds from the start on.
+pub fn kept_stamps_are_published()
+    ensures start { NothingIsStamped }
+    ensures start_places { PlacesFromTheStart }
+    ensures noted { NotedIsPublished }
+    ensures places { PlacesStay }
+    ensures start_serials { SerialsFromTheStart }
+    ensures serials { SerialsStay }
 {}

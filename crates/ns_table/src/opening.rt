@@ -9,6 +9,7 @@ ghost use Rattle.configfs_tree.specs.Links.{port_row, subsystem_row};
 
 use crate::layout::WORDS;
 use crate::shown::is_disk_shown;
+use change_stamps::ChangeStamps;
 use configfs_tree::Tree;
 use disk_extents::{Extent, split};
 use mem_bdev::Disk;
@@ -95,11 +96,17 @@ fn namespace_word(look: &mut TreeLook<'_>, number: u32) -> u64
 }
 
 // The word at a position.
-fn word_at(tree: &Tree, controllers: &Controllers, disks: &[Disk], at: u32) -> u64
+fn word_at(
+    tree: &Tree,
+    controllers: &Controllers,
+    disks: &[Disk],
+    stamps: &ChangeStamps,
+    at: u32,
+) -> u64
     requires { at < WORDS }
     ensures { result ≡ word_for (opened_shape tree.now controllers.now disks.now) (place_at at) }
 {
-    let mut look = TreeLook::new(tree, controllers, disks);
+    let mut look = TreeLook::new(tree, controllers, disks, stamps);
     if at < 64 {
         return bit_of(is_disk_shown(tree, at as u8));
     }
@@ -129,9 +136,10 @@ pub fn opened_words(
     ensures { IfOk result
         (λ v. v.items ≡ words_of (opened_shape tree.now controllers.now disks.now)) }
 {
+    let stamps = ChangeStamps::new(alloc)?;
     let mut words = Vec::with_capacity(alloc, WORDS as usize)?;
     for at in 0..WORDS {
-        words.push(word_at(tree, controllers, disks, at))?;
+        words.push(word_at(tree, controllers, disks, &stamps, at))?;
     }
     Ok(words)
 }

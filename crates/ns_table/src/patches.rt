@@ -5,6 +5,8 @@ ghost use Rattle.sqe_cqe.specs.declared.controllers.ControllerRow.{ControllerRow
 ghost use Rattle.configfs_tree.specs.Links.{subsystem_row};
 ghost use Rattle.tree_target.specs.Views.{space_in};
 ghost use Rattle.ns_table.specs.Changed.{disk_in, shape_before, stamps_after};
+ghost use Rattle.ns_table.specs.Kept.{HavePlaces, shape_of};
+ghost use Rattle.change_stamps.specs.Stamps.{Stamps as Kept, stamped};
 ghost use Rattle.ns_table.specs.Patches.{FitsChange, FitsTouched, FitsPair, IsBelow, port_words, subsystem_words, told_places, touched_places, turned_words, words_at};
 ghost use Rattle.ns_table.specs.Positions.{IsNsid};
 ghost use Rattle.ns_table.specs.Words.{Stamps, is_shown, opened_shape};
@@ -15,6 +17,7 @@ use crate::layout::{
 use crate::look::{has_controller, has_group, has_nsid};
 use crate::opening::{bit_of, group_word, space_word};
 use crate::shown::{is_disk_shown, namespace_shows};
+use change_stamps::ChangeStamps;
 use configfs_rows::NamespaceRow;
 use configfs_tree::{Change, Touched, Tree, subsystem_positions};
 use mem_bdev::Disk;
@@ -95,6 +98,7 @@ fn put_touched(
     tree: &Tree,
     controllers: &Controllers,
     disks: &[Disk],
+    stamps: &ChangeStamps,
     touched: Touched,
 )
     requires fits { FitsTouched touched }
@@ -103,7 +107,7 @@ fn put_touched(
         (touched_places touched) }
     ensures len { length p.new ≤ 10 }
 {
-    let mut look = TreeLook::new(tree, controllers, disks);
+    let mut look = TreeLook::new(tree, controllers, disks, stamps);
     match touched {
         Touched::Nothing | Touched::Subsystem(_) => {}
         Touched::Namespace(sub, nsid) => put_space(p, &mut look, sub, nsid),
@@ -234,24 +238,29 @@ pub fn fits(change: &Change) -> bool
 
 /// The words of all that a change tells of, at the serial that publishes it, in place of what the
 /// patch held: these are the only words that differ from those before the change
-/// (`words_change_where_told`). The tree is the one after the change. Takes no memory.
+/// (`words_change_where_told`). The tree is the one after the change, and the stamps those in which
+/// it was noted. Takes no memory.
 pub fn put_change(
     tree: &Tree,
     controllers: &Controllers,
     disks: &[Disk],
+    stamps: &ChangeStamps,
     change: &Change,
-    serial: u32,
     to: &mut Patch,
 )
     requires { FitsChange change.now }
     ensures words { (old : Stamps) → to.new
         ≡ words_at (shape_before tree.now controllers.now disks.now
-        (stamps_after serial change.now old))
+        (stamps_after stamps.now.serial change.now old))
+        (told_places tree.now change.now) }
+    ensures noted { (old : Kept) → HavePlaces old → stamps.now ≡ stamped change.now old
+        → to.new ≡ words_at (shape_of tree.now controllers.now disks.now stamps.now)
         (told_places tree.now change.now) }
     ensures few { length to.new ≤ 16 }
 {
+    let serial = stamps.serial();
     to.clear();
-    put_touched(to, tree, controllers, disks, change.touched);
+    put_touched(to, tree, controllers, disks, stamps, change.touched);
     put_turned(to, tree, change.namespace, serial);
     put_port(to, tree, change.ana_port, serial);
     put_subsystem(to, tree, change.ana_subsystem, serial);

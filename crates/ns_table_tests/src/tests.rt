@@ -1,5 +1,6 @@
 use crate::made::At::{Group, Port, Space, Sub};
 use crate::made::{At, empty, make, set};
+use change_stamps::ChangeStamps;
 use configfs_tree::Attr::*;
 use configfs_tree::{Attr, Tree};
 use mem_bdev::Disk;
@@ -160,12 +161,13 @@ fn the_look_of_words_is_the_look_of_the_tree(rt: HostRuntime) -> Result<(), Fail
     let disks = disks(rt.alloc())?;
     let words = opened_words(rt.alloc(), &tree, &controllers, &disks)?;
     assert_eq!(rt; words.len(), 361_592);
+    let stamps = ChangeStamps::new(rt.alloc())?;
     let rows = ListedRows {
         words: &words,
         serial: 0,
     };
     let mut by_words = RowLook { rows };
-    let mut by_tree = TreeLook::new(&tree, &controllers, &disks);
+    let mut by_tree = TreeLook::new(&tree, &controllers, &disks, &stamps);
     same_looks(&rt, &mut by_words, &mut by_tree);
     Ok(())
 }
@@ -229,29 +231,37 @@ fn patched_words_are_those_of_a_fresh_opening(rt: HostRuntime) -> Result<(), Fai
     let disks = disks(rt.alloc())?;
     let mut words = opened_words(rt.alloc(), &tree, &controllers, &disks)?;
     let mut patch = Patch::new(rt.alloc())?;
-    let mut serial: u32 = 0;
+    let mut stamps = ChangeStamps::new(rt.alloc())?;
     for at in MADE {
         let change = make(&rt, rt.alloc(), &mut tree, *at);
-        serial = u32::wrapping_add(serial, 1);
+        stamps.note(&change);
         assert!(rt; fits(&change));
-        put_change(&tree, &controllers, &disks, &change, serial, &mut patch);
+        put_change(&tree, &controllers, &disks, &stamps, &change, &mut patch);
         put_words(&rt, &mut words, &patch);
         let fresh = opened_words(rt.alloc(), &tree, &controllers, &disks)?;
         check_fresh(&rt, &words, &fresh);
     }
     for (at, attr, value) in EDITS {
         let change = set(&rt, rt.alloc(), &mut tree, *at, *attr, value);
-        serial = u32::wrapping_add(serial, 1);
+        stamps.note(&change);
         assert!(rt; fits(&change));
-        put_change(&tree, &controllers, &disks, &change, serial, &mut patch);
+        put_change(&tree, &controllers, &disks, &stamps, &change, &mut patch);
         put_words(&rt, &mut words, &patch);
         let fresh = opened_words(rt.alloc(), &tree, &controllers, &disks)?;
         check_fresh(&rt, &words, &fresh);
     }
-    // the last change of namespace 1 of s is the 17th, of port 1 the 15th
-    check(&rt, &words, ns_word(0, 1, 10), 17);
-    check(&rt, &words, port_stamp_word(0), 15);
+    // the last published change of namespace 1 of s is the 16th, of port 1 the 14th
+    check(&rt, &words, ns_word(0, 1, 10), 16);
+    check(&rt, &words, port_stamp_word(0), 14);
     check(&rt, &words, shown_word(0), 0);
     check(&rt, &words, shown_word(1), 1);
+    assert_eq!(rt; words.len(), 361_592);
+    let rows = ListedRows {
+        words: &words,
+        serial: stamps.serial(),
+    };
+    let mut by_words = RowLook { rows };
+    let mut by_tree = TreeLook::new(&tree, &controllers, &disks, &stamps);
+    same_looks(&rt, &mut by_words, &mut by_tree);
     Ok(())
 }
