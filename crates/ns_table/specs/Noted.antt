@@ -1,5 +1,5 @@
 -- The stamps that a target keeps, as changes are noted in them.
-use Rattle.std.specs.Prelude.{◌≡◌, ℕ}
+use Rattle.std.specs.Prelude.{◌≡◌}
 use Rattle.configfs_tree.specs.declared.edits.Change.{Change}
 use Rattle.change_stamps.specs.Stamps.{Stamps as Kept, no_stamps as nothing_kept, next_serial, stamped}
 use Rattle.ns_table.specs.Words.{no_stamps}

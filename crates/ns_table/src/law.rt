@@ -19,9 +19,9 @@ pub fn look_of_words_is_the_shapes()
     ensures { LookOfWordsIsTheShapes }
 {}
 
-/// What the words of a target's configuration answer, at the serial of its stamps, is what a look at
-/// its tree, its controllers, its disks and the stamps that it keeps answers: of each of the twelve
-/// questions of a look.
+/// What the words of a target's configuration answer, at the serial of its stamps, is what a look
+/// at its tree, its controllers, its disks and the stamps that it keeps answers: of each of the
+/// twelve questions of a look.
 pub fn look_of_words_is_the_trees()
     ensures { LookOfWordsIsTheTrees }
 {}

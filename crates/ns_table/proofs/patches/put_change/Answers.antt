@@ -1,5 +1,4 @@
-use Rattle.std.proofs.Common.{◌≡◌, ℕ, List, ap, ◌∙◌}
-use Rattle.ns_table.specs.Words.{Stamps}
+use Rattle.std.proofs.Common.{ℕ, ap, ◌∙◌}
 use Rattle.ns_table.specs.Kept.{stamps_by}
 use Rattle.ns_table.specs.Changed.{shape_before, stamps_after}
 use Rattle.ns_table.specs.Patches.{words_at, told_places}
