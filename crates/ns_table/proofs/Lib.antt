@@ -1,0 +1,17 @@
+pub mod Places
+pub mod Placed
+pub mod Slots
+pub mod Disks
+pub mod Follows
+pub mod Limits
+pub mod Spaces
+pub mod Answered
+pub mod ByPosition
+pub mod PortsByPosition
+pub mod Changing
+pub mod Patched
+pub mod PatchParts
+pub mod Whole
+pub mod Once
+pub mod Kept
+pub mod Noted

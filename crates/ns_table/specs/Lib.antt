@@ -1,0 +1,11 @@
+pub mod Positions
+pub mod Words
+pub mod Kept
+pub mod Slots
+pub mod Shown
+pub mod Follows
+pub mod Changed
+pub mod Patches
+pub mod Noted
+pub mod Looked
+pub mod Loaded
