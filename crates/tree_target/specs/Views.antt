@@ -59,7 +59,7 @@ group_in group None = None
 group_in group (Some p) = map.get p.groups group
 
 -- ---- what is seen of a subsystem and a port, wherever they were found, and of the stamps at their
--- positions. No call of this stage bars a controller or marks a namespace
+-- positions. No call bars a controller or marks a namespace
 abbrev pub seen_from : Configuration → List ControllerRow → List Blocks → Stamps → ℕ
     → Option SubsystemRow → Option PortRow → ℕ → ℕ → View
 seen_from t controllers blocks stamps ctrl s p sub port = record {
