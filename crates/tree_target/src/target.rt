@@ -140,6 +140,13 @@ impl Target {
         self.bindings.len()
     }
 
+    /// The configuration, as it stands.
+    pub fn tree(&self) -> &Tree
+        ensures { result.now ≡ self.now.tree }
+    {
+        &self.tree
+    }
+
     /// Whether the queue holds no command.
     pub fn is_idle(&self, queue: u32) -> bool
         ensures idle { IsTrue result → IsIdle self.now queue }
