@@ -1,0 +1,4 @@
+pub mod Starts
+pub mod Shown
+pub mod Refusals
+pub mod Stages
