@@ -1,0 +1,5 @@
+pub mod Seeds
+pub mod Texts
+pub mod Entries
+pub mod Commands
+pub mod Contents

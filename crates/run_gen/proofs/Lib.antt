@@ -1,0 +1,4 @@
+pub mod Adding
+pub mod Files
+pub mod Making
+pub mod Ending

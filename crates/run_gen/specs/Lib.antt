@@ -1,0 +1,5 @@
+pub mod Totals
+pub mod Written
+pub mod Summed
+pub mod Generated
+pub mod Refusals
