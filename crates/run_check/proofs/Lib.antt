@@ -1,0 +1,9 @@
+pub mod Walking
+pub mod Files
+pub mod Parsed
+pub mod Settling
+pub mod Placing
+pub mod Bounding
+pub mod Seating
+pub mod Verdicting
+pub mod Ending

@@ -1,0 +1,10 @@
+pub mod Finished
+pub mod ToldRun
+pub mod RecordFiles
+pub mod RecordReading
+pub mod Verdicts
+pub mod Texts
+pub mod Checked
+pub mod Refusals
+pub mod Ends
+pub mod Pieces
