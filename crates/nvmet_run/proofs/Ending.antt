@@ -22,7 +22,8 @@ use Rattle.run_inputs.specs.Known.{Known, begun}
 use Rattle.run_inputs.specs.Reading.{ReadsSo, Reading, ReadsFiles}
 use Rattle.run_inputs.specs.Views.{IsEarlier}
 use Rattle.nvmet_run.specs.Headline.{IsRunOf, IsWrittenOut, Ran, files_of_run}
-use Rattle.nvmet_run.specs.Made.{IsPrinted, MakesPlan, Stops, WriteEnds, RunEnds}
+use Rattle.nvmet_run.specs.Made.{MakesPlan, Stops, WriteEnds, RunEnds}
+use Rattle.run_prints.specs.Prints.{IsPrinted}
 use Rattle.nvmet_run.specs.Refusals.{Refusal, Unread, Unwritten, Unsaid, NoMemory}
 use Rattle.nvmet_run.proofs.Known.{walk_no_write}
 

@@ -1,5 +1,5 @@
-pub mod Adding
 pub mod Known
 pub mod Making
 pub mod Ending
 pub mod Settling
+pub mod Serving

@@ -14,6 +14,7 @@ code_of (status.WriteFault file) = 4
 code_of status.Memory = 5
 code_of (status.Limit file what count) = 6
 code_of (status.ConfigRefused edit errno) = 7
+code_of (status.NotLegal place field) = 8
 
 abbrev pub status_of : Fault → Status
 status_of (fault.Malformed file at) = status.Malformed file at

@@ -3,4 +3,4 @@ pub mod Commands
 pub mod Headline
 pub mod Refusals
 pub mod Made
-pub mod Totals
+pub mod Answers

@@ -1,8 +1,8 @@
 -- A run that was made and printed, before anything is written.
-use Rattle.std.specs.Prelude.{◌≡◌, ◌⊎◌, ℕ, List, map}
+use Rattle.std.specs.Prelude.{◌≡◌, ◌⊎◌, ℕ, List}
 use Rattle.plan_files.specs.declared.items.Plan.{Plan}
 use Rattle.run_inputs.specs.InputFiles.{input_files}
-use Rattle.run_inputs.specs.Known.{Known, begun}
+use Rattle.run_inputs.specs.Known.{begun}
 use Rattle.run_inputs.specs.Stages.{StoppedIn}
 use Rattle.run_inputs.specs.Views.{IsEarlier}
 use Rattle.run_outcomes.specs.declared.faults.Fault.{Fault}
@@ -11,37 +11,11 @@ use Rattle.run_outcomes.specs.declared.numbers.TheConstants.{SINK}
 use Rattle.run_outcomes.specs.Names.{to_write}
 use Rattle.run_outcomes.specs.Outsides.{Told, FilesView, Outside, FailedPut}
 use Rattle.run_outcomes.specs.Written.{ToWrite, AllWritten, StopsAt}
-use Rattle.run_transcript.specs.Runs.{Run, IsOrdered, IsLegalRun}
-use Rattle.run_transcript.specs.Served.{IsServed}
-use Rattle.run_transcript.specs.Printing.{responses, journal, summary}
+use Rattle.run_prints.specs.Prints.{IsPrinted}
+use Rattle.run_transcript.specs.Runs.{Run}
 use Rattle.nvmet_run.specs.Headline.{IsRunOf}
 
--- the run of what was read
-pub record IsOf (s : Known) (run : Run) : Type 0 where
-  pub plan : run.plan ≡ s.plan
-  pub start : run.start ≡ s.start
-  pub passed_over : run.passed_over ≡ s.passed_over
-  pub script : run.script ≡ s.script
-  pub files : run.files ≡ s.files
-
--- these texts are its prints
-pub record IsPrinted (run : Run) (records : List (List ℕ)) (journal_text summary_text : List ℕ)
-    : Type 0 where
-  pub records_are : records ≡ map responses run.queues
-  pub journal_is : journal_text ≡ journal run
-  pub summary_is : summary_text ≡ summary run
-
--- a run of what was read, ordered, served and legal, and its prints
-pub record Makes (s : Known) (records : List (List ℕ)) (journal_text summary_text : List ℕ)
-    : Type 0 where
-  pub run : Run
-  pub of : IsOf s run
-  pub ordered : IsOrdered run
-  pub served : IsServed run
-  pub legal : IsLegalRun run
-  pub printed : IsPrinted run records journal_text summary_text
-
--- the same of a plan by its name
+-- there is this run of the plan of this name, ordered, served and legal, and its prints
 pub record MakesPlan (told : Told) (name : List ℕ) (plan : Plan) (records : List (List ℕ))
     (journal_text summary_text : List ℕ) : Type 0 where
   pub run : Run

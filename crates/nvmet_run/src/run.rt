@@ -1,68 +1,31 @@
 // Runs of plans.
-ghost use Rattle.std.specs.Prelude.{◌≡◌, ◌≢◌, ◌≤◌, ◌⊎◌, ℕ, List, All, IsTrue, IfOk, IfErr, OnOk, Ok, Err, length, map, string_bytes};
+ghost use Rattle.std.specs.Prelude.{◌≡◌, ◌≢◌, ◌⊎◌, ℕ, List, IfOk, IfErr, OnOk, Ok, Err, map, string_bytes};
 ghost use Rattle.run_outside.specs.Outside.{Rose};
-ghost use Rattle.plan_files.specs.declared.plan.TheConstants.{MAX_QUEUES};
-ghost use Rattle.link_rules.specs.Table.{is_fitting};
-ghost use Rattle.script_lines.specs.declared.lines.TheConstants.{MAX_LINES};
-ghost use Rattle.tree_target.specs.Kept.{IsIdle};
 ghost use Rattle.run_inputs.specs.Gives.{PlanBegins};
 ghost use Rattle.run_inputs.specs.Known.{Known, begun};
 ghost use Rattle.run_inputs.specs.Planned.{IsPlanned};
 ghost use Rattle.run_inputs.specs.Reading.{FilesTell, ReadsSo};
-ghost use Rattle.run_inputs.specs.Ready.{HoldsRest, IsReady};
 ghost use Rattle.run_inputs.specs.Views.{IsEarlier, seen};
 ghost use Rattle.run_outcomes.specs.declared.faults.Fault.{Fault};
 ghost use Rattle.run_outcomes.specs.Names.{to_write};
 ghost use Rattle.run_outcomes.specs.Outsides.{told_by, files_view, sink_view, outside, Said, Took};
 ghost use Rattle.run_outcomes.specs.Texts.{line_of};
 ghost use Rattle.run_outcomes.specs.Written.{AllWritten};
+ghost use Rattle.run_verdicts.specs.declared.verdict.Field.{Field};
 ghost use Rattle.nvmet_run.specs.Codes.{status_of};
 ghost use Rattle.nvmet_run.specs.Headline.{Ran};
-ghost use Rattle.nvmet_run.specs.Made.{Makes, MakesPlan, RunEnds, Stops, WriteEnds};
+ghost use Rattle.nvmet_run.specs.Made.{MakesPlan, RunEnds, Stops, WriteEnds};
 ghost use Rattle.nvmet_run.specs.Refusals.{Refusal};
 
-use crate::journal::journal_of;
 use crate::status::Status;
-use crate::summary::summary_text;
 use crate::writing::write_files;
-use mem_bdev::Buffer;
 use plan_files::{Files, Gate, Plan, Sink};
-use run_inputs::{PlanInputs, file_name, read_plan_file, read_plan_inputs, told_files_settle};
+use run_inputs::{file_name, read_plan_file, read_plan_inputs, told_files_settle};
 use run_outcomes::{Fault, plans_have_apart_names, put_line, put_text};
-use run_serving::{Served, serve};
-use std::alloc::{AllocError, Global};
+use run_prints::{Printed, serve_inputs};
+use std::alloc::Global;
 use std::sync::Wait;
 use std::thread::Threads;
-
-// What a run has made before it writes.
-#[derive(Drop)]
-struct Printed {
-    served: Served,
-    journal: Buffer,
-    text: String,
-}
-
-// Serves what was read, and makes the texts of it.
-fn serve_inputs(alloc: Global, inputs: &mut PlanInputs) -> Result<Printed, AllocError>
-    requires queues { length inputs.old.files.items ≡ length inputs.old.target.bindings }
-    requires few_queues { length inputs.old.files.items ≤ MAX_QUEUES }
-    requires idle { (queue : ℕ) → IsIdle inputs.old.target queue }
-    requires ready { All IsReady inputs.old.files.items }
-    requires lines { length inputs.old.script.items ≤ MAX_LINES }
-    requires fitting { All (λ s. IsTrue (is_fitting s.edit)) inputs.old.script.items }
-    ensures { IfOk result (λ m. (s : Known) → HoldsRest inputs.old s
-        → Makes s (map (λ o. o.records.bytes) m.served.outputs.items) m.journal.bytes
-        (string_bytes m.text)) }
-{
-    let served = serve(alloc, &mut inputs.target, &inputs.script, &inputs.files)?;
-    let journal = journal_of(alloc, served.places, &served.journal)?;
-    let text = summary_text(alloc, &served, inputs.passed_over)?;
-    Ok(Printed {
-        served,
-        journal,
-        text,
-    })
-}
 
 // Reads the files that a plan names, and serves them.
 fn make_run<F: Files>(alloc: Global, plan: &Plan, files: &mut F) -> Result<Printed, Fault>
@@ -226,8 +189,9 @@ pub fn run_plan<R: Wait + Threads + Sync, F: Files, K: Sink, G: Gate + Sync>(
     ensures fine { result ≡ Status.Fine → Ran (told_by (F.tells files.old) (F.told files.old))
         (told_by (F.tells files.new) (F.told files.new)) (K.taken out.old) (K.taken out.new)
         plan.now }
-    // The words are no matter of this call.
+    // The words are no matter of this call, and no records are judged.
     ensures usage { result ≢ Status.Usage }
+    ensures not_legal { (place : ℕ) → (field : Field) → result ≢ Status.NotLegal place field }
     // Why another status came, and what it left.
     ensures refused { (f : Fault) → result ≡ status_of f → Refusal
         (outside (told_by (F.tells files.old) (F.told files.old)) (F.faults files.old)

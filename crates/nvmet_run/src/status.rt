@@ -3,6 +3,7 @@ ghost use Rattle.std.specs.Prelude.{◌≡◌};
 use configfs_tree::Errno;
 use plan_files::What;
 use run_outcomes::{At, Fault, FileNo};
+use run_verdicts::Field;
 
 /// How a command of the program ended.
 #[derive(Debug, Drop)]
@@ -37,12 +38,18 @@ pub enum Status {
         edit: u64,
         errno: Errno,
     },
+    /// The records of a finished run are not those of the sequential target: the first place where
+    /// they differ, and the field.
+    NotLegal {
+        place: u32,
+        field: Field,
+    },
 }
 
 impl Status {
     ghost use Rattle.nvmet_run.specs.Codes.{code_of, status_of};
 
-    /// The exit status: 0 to 7 in the order of the variants.
+    /// The exit status: 0 to 8 in the order of the variants.
     pub fn code(&self) -> u8
         ensures { result ≡ code_of self.now }
     {
@@ -55,6 +62,7 @@ impl Status {
             Status::Memory => 5,
             Status::Limit { .. } => 6,
             Status::ConfigRefused { .. } => 7,
+            Status::NotLegal { .. } => 8,
         }
     }
 

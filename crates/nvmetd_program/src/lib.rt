@@ -2,18 +2,19 @@
 //! status. A program's `main` is `run_on_host` alone, over the real files and standard output.
 #![tactic(auto)]
 
-ghost use Rattle.std.specs.Prelude.{◌≡◌, ◌⊎◌, ◌↔◌, List, ℕ, Some, None, [], drop, IfOk, IsErr, IsOkAnd, OnErr};
+ghost use Rattle.std.specs.Prelude.{◌≡◌, ◌⊎◌, ◌↔◌, ℕ, Some, None, [], drop, IfOk, IsErr, IsOkAnd, OnErr};
 ghost use Rattle.std.specs.Process.{exit_status};
 ghost use Rattle.std.specs.Vec.Iter.{into_iter_items};
+ghost use Rattle.command_words.specs.Commands.{said_by};
+ghost use Rattle.command_words.specs.declared.words.Words.{Words};
+ghost use Rattle.run_verdicts.specs.declared.verdict.Field.{Field};
+ghost use Rattle.nvmet_run.specs.Answers.{EndsBy, EndsNotLegal, EndsWell};
 ghost use Rattle.nvmet_run.specs.Codes.{code_of, status_of};
-ghost use Rattle.nvmet_run.specs.Commands.{said, said_by};
-ghost use Rattle.nvmet_run.specs.Headline.{Ran};
-ghost use Rattle.nvmet_run.specs.Refusals.{Refusal};
 ghost use Rattle.run_outcomes.specs.Outsides.{told_by, files_view, sink_view, outside, Said};
 ghost use Rattle.run_outcomes.specs.declared.faults.Fault.{Fault};
 ghost use Rattle.nvmetd_program.specs.Words.{given_words, LacksMemory, memory_line};
 
-use nvmet_run::{Status, Verb, command};
+use nvmet_run::{Status, command};
 use plan_files::{Files, Gate, HostFiles, HostSink, OpenGate, Sink};
 use std::alloc::{AllocError, Global};
 use std::env::{Args, Env, args};
@@ -22,7 +23,7 @@ use std::sync::Wait;
 use std::thread::Threads;
 use std::{io, rt};
 
-/// The exit status of a program whose command ended so: 0 to 7 in the order of the variants.
+/// The exit status of a program whose command ended so: 0 to 8 in the order of the variants.
 pub fn exit_code(status: &Status) -> ExitCode
     ensures { exit_status result ≡ code_of status.now }
 {
@@ -72,21 +73,28 @@ pub fn answer<R: Wait + Threads + Sync, F: Files, K: Sink, G: Gate + Sync>(
     out: &mut K,
     gate: &G,
 ) -> Status
-    // It ends well only where the words name a plan and the run theorem holds of it.
-    ensures fine { result ≡ Status.Fine → IsOkAnd words (λ v. (plan : List ℕ)
-        × (said_by v.items ≡ Some (said Verb.Run plan))
-        × Ran (told_by (F.tells files.old) (F.told files.old))
-        (told_by (F.tells files.new) (F.told files.new)) (K.taken out.old) (K.taken out.new) plan) }
-    // The words are no command, and there was memory for them.
-    ensures usage { (result ≡ Status.Usage) ↔ IsOkAnd words (λ v. said_by v.items ≡ None) }
-    // Another status has its cause in the run of the plan that the words name.
-    ensures refused { (f : Fault) → result ≡ status_of f → IsErr words ⊎ IsOkAnd words (λ v. (plan : List ℕ)
-        × (said_by v.items ≡ Some (said Verb.Run plan))
-        × Refusal
+    // It ends well only where the words say a command, and then as that command does.
+    ensures fine { result ≡ Status.Fine → IsOkAnd words (λ v. (w : Words)
+        × (said_by v.items ≡ Some w) × EndsWell
         (outside (told_by (F.tells files.old) (F.told files.old)) (F.faults files.old)
         (F.last files.old) (K.taken out.old) (K.faults out.old))
         (outside (told_by (F.tells files.new) (F.told files.new)) (F.faults files.new)
-        (F.last files.new) (K.taken out.new) (K.faults out.new)) plan f) }
+        (F.last files.new) (K.taken out.new) (K.faults out.new)) w) }
+    // The words say nothing, and there was memory for them.
+    ensures usage { (result ≡ Status.Usage) ↔ IsOkAnd words (λ v. said_by v.items ≡ None) }
+    // Another status has its cause in the command that the words say.
+    ensures refused { (f : Fault) → result ≡ status_of f → IsErr words
+        ⊎ IsOkAnd words (λ v. (w : Words) × (said_by v.items ≡ Some w) × EndsBy
+        (outside (told_by (F.tells files.old) (F.told files.old)) (F.faults files.old)
+        (F.last files.old) (K.taken out.old) (K.faults out.old))
+        (outside (told_by (F.tells files.new) (F.told files.new)) (F.faults files.new)
+        (F.last files.new) (K.taken out.new) (K.faults out.new)) w f) }
+    ensures not_legal { (place : ℕ) → (field : Field) → result ≡ Status.NotLegal place field
+        → IsOkAnd words (λ v. (w : Words) × (said_by v.items ≡ Some w) × EndsNotLegal
+        (outside (told_by (F.tells files.old) (F.told files.old)) (F.faults files.old)
+        (F.last files.old) (K.taken out.old) (K.faults out.old))
+        (outside (told_by (F.tells files.new) (F.told files.new)) (F.faults files.new)
+        (F.last files.new) (K.taken out.new) (K.faults out.new)) w place field) }
     ensures memory { OnErr words (result ≡ Status.Memory) }
     ensures untouched { OnErr words
         (files_view (told_by (F.tells files.new) (F.told files.new)) (F.faults files.new) (F.last files.new)

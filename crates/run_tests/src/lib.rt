@@ -14,3 +14,5 @@ mod outcome;
 mod script_tests;
 #[cfg(test)]
 mod simple_tests;
+#[cfg(test)]
+mod word_tests;

@@ -1,19 +1,18 @@
-use Rattle.std.proofs.Common.{◌≡◌, ℕ, List, [], Option, Some, None, Ok, ap, sym, subst, ◌∙◌}
-use Rattle.run_inputs.specs.Reading.{FilesTell}
+use Rattle.std.proofs.Common.{◌≡◌, ℕ, List, Some, sym, ap, subst, ◌∙◌}
+use Rattle.command_words.specs.declared.words.Words.{Words}
+use Rattle.command_words.specs.declared.words.Words.TheVariants as words
 use Rattle.run_outcomes.specs.Outsides.{told_by}
-use Rattle.nvmet_run.specs.Commands.{Said}
+use Rattle.nvmet_run.specs.Answers.{TellsNone}
+use Rattle.nvmet_run.proofs.Serving.{word_is}
 use Rattle.nvmet_run.proofs.top.command.Goals as goal
 
-abbrev plan_or : Option Said → List ℕ
-plan_or None = []
-plan_or (Some s) = s.plan
-
-pub returns-in-Some-Run-default-clause-complete : goal.returns-in-Some-Run-default-clause-complete
-returns-in-Some-Run-default-clause-complete g c = λ plan is s tells quiet calm.
-    let same : plan ≡ c.in-Some-Run-default.plan.now = ap plan_or (sym is
-    ∙ c.in-Some-Run-default.ensures) in
-    let files = g.F.Files in
+pub returns-in-Some-clause-complete : goal.returns-in-Some-clause-complete
+returns-in-Some-clause-complete g c = λ w said tells quiet calm.
     let old = c.args.files.now in
-    let told = told_by (files.tells old) (files.told old) in
-    c.run_plan.ensures.complete s (subst (λ (p : List ℕ). FilesTell told p (Ok s)) same tells) quiet
-    calm
+    let told = told_by (g.F.Files.tells old) (g.F.Files.told old) in
+    let same : w ≡ words.Run c.in-Ok-Run.plan =
+    word_is w c.in-Ok-Run.field-0 (sym said ∙ c.in-Ok-Run.ensures.reads) ∙ c.in-Ok-Run.field-0-is in
+    let here : TellsNone told (words.Run c.in-Some.plan.now) =
+    subst (λ (x : Words). TellsNone told x) (same
+    ∙ ap (λ (p : List ℕ). words.Run p) (sym c.in-Some.ensures.text)) tells in
+    c.run_plan.ensures.complete here.0 here.1 quiet calm
