@@ -1,0 +1,9 @@
+pub mod Owning
+pub mod Standing
+pub mod Bindings
+pub mod Accepting
+pub mod Carrying
+pub mod Stepping
+pub mod Editing
+pub mod Reaching
+pub mod Leading
