@@ -15,3 +15,4 @@ pub mod Whole
 pub mod Once
 pub mod Kept
 pub mod Noted
+pub mod Holders

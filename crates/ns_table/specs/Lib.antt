@@ -3,6 +3,7 @@ pub mod Words
 pub mod Kept
 pub mod Slots
 pub mod Shown
+pub mod Holders
 pub mod Follows
 pub mod Changed
 pub mod Patches

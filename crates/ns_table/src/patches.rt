@@ -7,6 +7,7 @@ ghost use Rattle.tree_target.specs.Views.{space_in};
 ghost use Rattle.ns_table.specs.Changed.{disk_in, shape_before, stamps_after};
 ghost use Rattle.ns_table.specs.Kept.{HavePlaces, shape_of};
 ghost use Rattle.change_stamps.specs.Stamps.{Stamps as Kept, stamped};
+ghost use Rattle.ns_table.specs.Holders.{is_held_shown};
 ghost use Rattle.ns_table.specs.Patches.{FitsChange, FitsTouched, FitsPair, IsBelow, port_words, subsystem_words, told_places, touched_places, turned_words, words_at};
 ghost use Rattle.ns_table.specs.Positions.{IsNsid};
 ghost use Rattle.ns_table.specs.Words.{Stamps, is_shown, opened_shape};
@@ -16,7 +17,7 @@ use crate::layout::{
 };
 use crate::look::{has_controller, has_group, has_nsid};
 use crate::opening::{bit_of, group_word, space_word};
-use crate::shown::{is_disk_shown, namespace_shows};
+use crate::shown::namespace_shows;
 use change_stamps::ChangeStamps;
 use configfs_rows::NamespaceRow;
 use configfs_tree::{Change, Touched, Tree, subsystem_positions};
@@ -166,17 +167,29 @@ fn disk_number_at(tree: &Tree, sub: u8, nsid: u32) -> Option<u8>
     namespace.disk
 }
 
-// Whether an enabled namespace is on a disk. Where the namespace at an NSID is, no other is looked
-// at.
-fn shows_disk(tree: &Tree, sub: u8, nsid: u32, disk: u8) -> bool
+// Whether the namespace that holds a disk is enabled on it.
+fn is_held_shown(tree: &Tree, disk: u8) -> bool
+    ensures { result ≡ is_held_shown tree.now disk }
+{
+    let Some(row) = tree.disks().get(disk) else {
+        return false;
+    };
+    match &row.holder {
+        None => false,
+        Some(holder) => match namespace_at(tree, holder.sub, holder.nsid) {
+            None => false,
+            Some(namespace) => namespace_shows(namespace, disk),
+        },
+    }
+}
+
+// Whether an enabled namespace is on a disk. It could be only the one that holds the disk, so no
+// other is looked at.
+fn shows_disk(tree: &Tree, disk: u8) -> bool
     ensures { result ≡ is_shown tree.now disk }
 {
     tree.certify();
-    subsystem_positions(tree);
-    match namespace_at(tree, sub, nsid) {
-        Some(namespace) if namespace_shows(namespace, disk) => true,
-        _ => is_disk_shown(tree, disk),
-    }
+    is_held_shown(tree, disk)
 }
 
 // Puts the stamp of a namespace that turned, and the word of its disk.
@@ -192,7 +205,7 @@ fn put_turned(p: &mut Patch, tree: &Tree, namespace: Option<(u8, u32)>, serial: 
     };
     p.put(ns_word(sub, nsid, 10), u64::from(serial));
     if let Some(disk) = disk_number_at(tree, sub, nsid) {
-        p.put(shown_word(disk), bit_of(shows_disk(tree, sub, nsid, disk)));
+        p.put(shown_word(disk), bit_of(shows_disk(tree, disk)));
     }
 }
 

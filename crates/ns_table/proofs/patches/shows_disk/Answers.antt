@@ -1,6 +1,6 @@
-use Rattle.std.proofs.Common.{sym, ◌∙◌}
-use Rattle.ns_table.proofs.Patched.{seen-shows}
+use Rattle.std.proofs.Common.{◌∙◌}
+use Rattle.ns_table.proofs.Holders.{held-shown}
 use Rattle.ns_table.proofs.patches.shows_disk.Goals as goal
 
-pub returns-in-Some : goal.returns-in-Some
-returns-in-Some c = sym (seen-shows c.args.tree.now c.args.sub c.args.nsid c.args.disk c.in-Some.namespace.now c.subsystem_positions.ensures (sym c.in-Some.ensures) (sym c.namespace_shows.ensures ∙ c.if-namespace_shows.true))
+pub returns : goal.returns
+returns c = c.is_held_shown.ensures ∙ held-shown c.args.tree.now c.args.disk c.certify.ensures

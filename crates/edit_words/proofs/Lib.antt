@@ -1,0 +1,11 @@
+pub mod Lists
+pub mod Appended
+pub mod Rows
+pub mod Table
+pub mod Links
+pub mod ByPlace
+pub mod Told
+pub mod Edited
+pub mod Drains
+pub mod Controls
+pub mod Answered

@@ -1,0 +1,6 @@
+pub mod Differing
+pub mod Exact
+pub mod Laws
+pub mod Controls
+pub mod Answered
+pub mod Memory
