@@ -1,0 +1,4 @@
+pub mod Replaying
+pub mod Opened
+pub mod Calling
+pub mod Working

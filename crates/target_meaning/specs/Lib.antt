@@ -1,0 +1,4 @@
+pub mod TreeMeans
+pub mod Histories
+pub mod Callers
+pub mod Executes

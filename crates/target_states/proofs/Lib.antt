@@ -1,0 +1,9 @@
+pub mod Admitting
+pub mod Changes
+pub mod Keeping
+pub mod Commands
+pub mod Slots
+pub mod Deciding
+pub mod Tags
+pub mod Starting
+pub mod Connecting
