@@ -1,0 +1,2 @@
+pub mod AsTrees
+pub mod Submitting

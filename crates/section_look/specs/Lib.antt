@@ -1,0 +1,5 @@
+pub mod Read
+pub mod Loaded
+pub mod Trees
+pub mod Admissions
+pub mod Submits
