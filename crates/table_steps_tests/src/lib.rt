@@ -7,6 +7,8 @@ mod drain_tests;
 #[cfg(test)]
 mod execute_tests;
 #[cfg(test)]
+mod extents_tests;
+#[cfg(test)]
 mod gather_tests;
 #[cfg(test)]
 mod parts_tests;
