@@ -1,12 +1,15 @@
-//! Two threads draw places in sections while a third publishes: every record is the replay of the
-//! gathered history.
+//! Two threads draw places in sections while a third publishes 1,000 times: every record is the
+//! replay of the gathered history. The threads go in rounds, of which each side is one ahead at
+//! most, so that both get on between each other whatever the schedule.
 ghost use Rattle.std.specs.Prelude.{◌≡◌, ◌≢◌, ◌+◌, ◌<◌, ◌≤◌};
 ghost use Rattle.table_seats.specs.Publishing.{Publishes};
 ghost use Rattle.table_seats.specs.Resting.{Rests};
 
 use std::alloc::{AllocError, Global};
 use std::marker::Brand;
+use std::sync::atomic::{AtomicU64, Ordering};
 use std::sync::ledger::{Blank, Ledger};
+use std::thread;
 use std::thread::{Threads, join};
 use table_rule::ticks::Steps;
 use table_seats::ground::{Table, three};
@@ -14,35 +17,70 @@ use table_seats::publishing::{look_all, show_by};
 use table_seats::sections::bare;
 use target_table::table::Seat;
 
-// How many places each of the three seats has.
-const COUNT: u32 = 200;
+// How many places each of the three seats has. The queues use all of them.
+const COUNT: u32 = 4000;
 
-// How often the editor looks at all sections at most.
+// How many edits are published.
+const EDITS: usize = 1000;
+
+// How many calls of a queue and how many edits a round has.
+const CALLS_A_ROUND: usize = 40;
+
+const EDITS_A_ROUND: usize = 10;
+
+// How often a thread looks at most at what it waits for.
 const TRIES: u32 = 100000000;
 
-// Makes this many bare calls: the place, serial and row of each.
+// Waits until another thread has counted so far: false where it looked too often.
+fn wait_for(counted: &AtomicU64, least: usize) -> bool {
+    for _ in 0..TRIES {
+        if counted.load(Ordering::SeqCst) >= least as u64 {
+            return true;
+        }
+        thread::yield_now();
+    }
+    false
+}
+
+// The edits that are published before a queue's call of this number: those of the rounds before
+// its own.
+fn edits_before(call: usize) -> usize {
+    (call / CALLS_A_ROUND).wrapping_mul(EDITS_A_ROUND)
+}
+
+// The calls of each queue that are placed before an edit of this number, likewise.
+fn calls_before(edit: usize) -> usize {
+    (edit / EDITS_A_ROUND).wrapping_mul(CALLS_A_ROUND)
+}
+
+// Makes its calls: the place, serial and row of each.
 fn serve<L: Ledger>(
     alloc: Global,
     table: &Table,
     seat: Seat<u64>,
-    count: u32,
+    edits: &AtomicU64,
+    calls: &AtomicU64,
     steps: Steps<L>,
 ) -> Option<Vec<(u32, u32, u64)>>
     requires own { seat.base.table_id ≡ table.now.table.shared.table_id }
     requires rows { 0 < table.now.table.shared.key.rows }
     requires rests { Rests seat.number seat.base.me }
-    requires left { count ≤ seat.left }
+    requires left { 4000 ≤ seat.left }
 {
     let mut seat = seat;
     let mut steps = steps;
     let mut records = Vec::new(alloc);
     let mut number = 0;
-    while number < count {
+    while number < COUNT {
+        if !wait_for(edits, edits_before(number as usize)) {
+            return None;
+        }
         let record = bare(table, &mut seat, number, &mut steps);
         if records.push(record).is_err() {
             return None;
         }
         number += 1;
+        calls.store(number as u64, Ordering::SeqCst);
     }
     Some(records)
 }
@@ -63,6 +101,7 @@ fn try_edit<L: Ledger>(
     ensures edits { Publishes editor.new.base.me.0 }
 {
     if !look_all(table, editor, steps) {
+        thread::yield_now();
         return true;
     }
     let number = editor.left();
@@ -70,11 +109,13 @@ fn try_edit<L: Ledger>(
     records.push((place, serial, number as u64)).is_ok()
 }
 
-// Publishes until no place is left: the place, serial and number of each edit.
+// Publishes the edits: the place, serial and number of each.
 fn edit<L: Ledger>(
     alloc: Global,
     table: &Table,
     editor: Seat<u64>,
+    edits: &AtomicU64,
+    calls: (&AtomicU64, &AtomicU64),
     steps: Steps<L>,
 ) -> Option<Vec<(u32, u32, u64)>>
     requires own { editor.base.table_id ≡ table.now.table.shared.table_id }
@@ -86,12 +127,17 @@ fn edit<L: Ledger>(
     let mut records = Vec::new(alloc);
     let mut tries = 0;
     while tries < TRIES {
-        if editor.left() == 0 {
+        if records.len() >= EDITS {
             return Some(records);
+        }
+        let least = calls_before(records.len());
+        if editor.left() == 0 || !wait_for(calls.0, least) || !wait_for(calls.1, least) {
+            return None;
         }
         if !try_edit(table, &mut editor, &mut records, &mut steps) {
             return None;
         }
+        edits.store(records.len() as u64, Ordering::SeqCst);
         tries += 1;
     }
     None
@@ -104,6 +150,8 @@ fn serve_both<L: Ledger + Send, K: Ledger + Send, R: Threads + Sync>(
     table: &Table,
     one: Seat<u64>,
     two: Seat<u64>,
+    edits: &AtomicU64,
+    calls: (&AtomicU64, &AtomicU64),
     steps: Steps<L>,
     theirs: Steps<K>,
 ) -> Option<(Vec<(u32, u32, u64)>, Vec<(u32, u32, u64)>)>
@@ -111,12 +159,13 @@ fn serve_both<L: Ledger + Send, K: Ledger + Send, R: Threads + Sync>(
         × (two.base.table_id ≡ table.now.table.shared.table_id) }
     requires rows { 0 < table.now.table.shared.key.rows }
     requires rests { Rests one.number one.base.me × Rests two.number two.base.me }
-    requires left { (200 ≤ one.left) × (200 ≤ two.left) }
+    requires left { (4000 ≤ one.left) × (4000 ≤ two.left) }
 {
+    let (mine, others) = calls;
     let (first, second) = join(
         rt,
-        move || serve(alloc, table, one, COUNT, steps),
-        move || serve(alloc, table, two, COUNT, theirs),
+        move || serve(alloc, table, one, edits, mine, steps),
+        move || serve(alloc, table, two, edits, others, theirs),
     );
     Some((first?, second?))
 }
@@ -145,6 +194,10 @@ fn run_all<L: Ledger + Send, K: Ledger + Send, E: Ledger + Send, R: Threads + Sy
     let steps = Steps::<L>::start(blank);
     let theirs = Steps::<K>::start(other);
     let own = Steps::<E>::start(editors);
+    let edits = AtomicU64::new(0);
+    let first = AtomicU64::new(0);
+    let second = AtomicU64::new(0);
+    let (published, calls) = (&edits, (&first, &second));
     let table = &table;
     let (served, edits) = join(
         rt,
@@ -153,9 +206,9 @@ fn run_all<L: Ledger + Send, K: Ledger + Send, E: Ledger + Send, R: Threads + Sy
                 × (two.base.table_id ≡ table.now.table.shared.table_id) }
             requires rows { 0 < table.now.table.shared.key.rows }
             requires rests { Rests one.number one.base.me × Rests two.number two.base.me }
-            requires left { (200 ≤ one.left) × (200 ≤ two.left) }
-        { serve_both(rt, alloc, table, one, two, steps, theirs) },
-        move || edit(alloc, table, editor, own),
+            requires left { (4000 ≤ one.left) × (4000 ≤ two.left) }
+        { serve_both(rt, alloc, table, one, two, published, calls, steps, theirs) },
+        move || edit(alloc, table, editor, published, calls, own),
     );
     let (first, second) = served?;
     Some((first, second, edits?))
@@ -197,6 +250,21 @@ fn is_replay(slots: &[Option<(bool, u32, u64)>]) -> bool {
     true
 }
 
+// Each call of a queue has a serial of its own round: the edits of the rounds before are published,
+// and those of the rounds after aren't.
+fn keeps_rounds(records: &[(u32, u32, u64)]) -> bool {
+    let mut number = 0;
+    for record in records {
+        let serial = record.1 as usize;
+        let least = edits_before(number);
+        if serial < least || serial > least.wrapping_add(EDITS_A_ROUND) {
+            return false;
+        }
+        number = number.wrapping_add(1);
+    }
+    number == COUNT as usize
+}
+
 #[test]
 fn records_are_the_replay(rt: HostRuntime) -> Result<(), AllocError> {
     let alloc = rt.alloc();
@@ -210,10 +278,11 @@ fn records_are_the_replay(rt: HostRuntime) -> Result<(), AllocError> {
     let Some((first, second, edits)) = found else {
         return Err(AllocError);
     };
-    let mut slots = vec![in alloc; None; 600]?;
+    let mut slots = vec![in alloc; None; 9000]?;
     assert!(rt; place_all(slots.as_mut_slice(), first.as_slice(), false));
     assert!(rt; place_all(slots.as_mut_slice(), second.as_slice(), false));
     assert!(rt; place_all(slots.as_mut_slice(), edits.as_slice(), true));
     assert!(rt; is_replay(slots.as_slice()));
+    assert!(rt; keeps_rounds(first.as_slice()) && keeps_rounds(second.as_slice()));
     Ok(())
 }

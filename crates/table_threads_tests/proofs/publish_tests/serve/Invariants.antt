@@ -6,8 +6,8 @@ abbrev pub invariant-loop-number : goal.invariant-loop-number
 invariant-loop-number g l = record {
   own : l.seat.base.table_id ≡ l.table.table.shared.table_id;
   rests : Rests l.seat.number l.seat.base.me;
-  left : l.count ≤ l.seat.left + l.number;
+  left : 4000 ≤ l.seat.left + l.number;
 }
 
 abbrev pub decreases-loop-number : goal.decreases-loop-number
-decreases-loop-number g l = l.count - l.number
+decreases-loop-number g l = 4000 - l.number
