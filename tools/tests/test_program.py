@@ -72,6 +72,33 @@ class Program(unittest.TestCase):
             for file in sorted(set(os.listdir(wanted)) - {"stdout"}):
                 self.assertEqual(read_bytes(os.path.join(folder, file)), read_bytes(os.path.join(wanted, file)),
                                  "%s of examples/%s" % (file, name))
+            places = read_bytes(os.path.join(wanted, "journal")).splitlines()[1].split()[1]
+            self.assertEqual(self.command(folder, "check", "plan"), (0, b"legal " + places + b"\n"), name)
+            shown = self.command(folder, "show", "plan")[1]
+            with open(os.path.join(folder, "config.json"), "wb") as file:
+                file.write(shown)
+            self.assertEqual(self.command(folder, "show", "plan"), (0, shown), name)
+
+    def command(self, folder, *words):
+        """The exit status of a command of the program, and what it puts."""
+        done = subprocess.run([PROGRAM, *words], cwd=folder, stdout=subprocess.PIPE)
+        return done.returncode, done.stdout
+
+    def test_a_generated_plan(self):
+        folder = self.folder.name
+        status, summary = self.command(folder, "gen", "7", "g")
+        self.assertEqual((status, summary.splitlines()[0]), (0, b"places 238"))
+        names = ["g.json", "g.plan", "g.q1", "g.q2", "g.q3", "g.q4", "g.script"]
+        self.assertEqual(sorted(os.listdir(folder)), names)
+        self.assertEqual([os.path.getsize(os.path.join(folder, name)) for name in ("g.q1", "g.q2")], [2432, 17216])
+        self.assertEqual(self.command(folder, "run", "g.plan"), (0, summary))
+        self.assertEqual(self.command(folder, "check", "g.plan"), (0, b"legal 238\n"))
+        records = bytearray(read_bytes(os.path.join(folder, "g.r2")))
+        records[-1] ^= 1
+        with open(os.path.join(folder, "g.r2"), "wb") as file:
+            file.write(records)
+        status, line = self.command(folder, "check", "g.plan")
+        self.assertEqual((status, line[:16]), (8, b"not legal place "))
 
 
 if __name__ == "__main__":
