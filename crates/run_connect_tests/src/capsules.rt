@@ -66,8 +66,8 @@ fn put_nqn(bytes: &mut Vec<u8>, nqn: Nqn) -> Result<(), Fail> {
     Ok(())
 }
 
-// Appends Connect data: CNTLID at 16, the subsystem at 256, the host at 512, 1,024 bytes in all;
-// then zeros up to this length, or without the bytes from it on.
+// Appends Connect data: CNTLID at 16, the subsystem at 256, the host at 512, 1,024 bytes in all, or
+// one byte less or more where the length says so.
 fn put_connect_data(
     bytes: &mut Vec<u8>,
     length: usize,
@@ -75,13 +75,16 @@ fn put_connect_data(
     subsystem: Nqn,
     host: Nqn,
 ) -> Result<(), Fail> {
-    let start = bytes.len();
     bytes.extend_from_slice(&[7; 16])?;
     bytes.extend_from_slice(&cntlid.to_le_bytes())?;
     bytes.extend_from_slice(&[0; 238])?;
     put_nqn(bytes, subsystem)?;
     put_nqn(bytes, host)?;
-    while bytes.len() - start < length {
+    bytes.extend_from_slice(&[0; 256])?;
+    // 1,023 and 1,025 bytes of data have one byte of a next field less or more.
+    if length < 1024 {
+        let _ = bytes.pop();
+    } else if length > 1024 {
         bytes.push(0)?;
     }
     Ok(())

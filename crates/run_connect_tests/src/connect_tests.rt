@@ -3,9 +3,10 @@
 use crate::capsules::Capsule::{Connect, Get, Other, Read, Set, Write};
 use crate::capsules::Nqn::{Name, Unended};
 use crate::capsules::{Capsule, Nqn, queue_file};
-use crate::outcome::run;
+use crate::outcome::run_files;
 use crate::records::Record::{Answered, Control, Executed, Held, NoEvent, WithBlock};
 use crate::records::{Record, response_file};
+use plan_files::MemFiles;
 use std::test::Fail;
 
 const PLAN: &[u8] =
@@ -209,18 +210,14 @@ const NAMES: &[(&str, &str)] = &[
 #[test]
 fn each_call_of_eight_queues_has_its_record(rt: HostRuntime) -> Result<(), Fail> {
     let alloc = rt.alloc();
-    let mut queues = Vec::new(alloc);
-    for (capsules, _) in QUEUES {
-        queues.push(queue_file(alloc, capsules)?)?;
+    let mut files = MemFiles::new(alloc, Vec::new(alloc));
+    files.put("p", PLAN)?;
+    files.put("c", CONFIG)?;
+    files.put("s", SCRIPT)?;
+    for ((name, _), (capsules, _)) in NAMES.iter().zip(QUEUES) {
+        files.put(name, &queue_file(alloc, capsules)?)?;
     }
-    let mut contents: Vec<(&str, &[u8])> = Vec::new(alloc);
-    contents.push(("p", PLAN))?;
-    contents.push(("c", CONFIG))?;
-    contents.push(("s", SCRIPT))?;
-    for ((name, _), bytes) in NAMES.iter().zip(&queues) {
-        contents.push((name, bytes.as_slice()))?;
-    }
-    let outcome = run(&rt, alloc, &contents)?;
+    let outcome = run_files(&rt, alloc, files)?;
     assert_eq!(rt; outcome.code, 0);
     for ((_, name), (_, records)) in NAMES.iter().zip(QUEUES) {
         let want = response_file(alloc, records)?;

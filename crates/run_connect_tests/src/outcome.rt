@@ -29,6 +29,21 @@ impl Outcome {
     }
 }
 
+/// Runs the plan `p` over files in memory.
+pub fn run_files<R: Wait + Threads + Sync>(
+    rt: &R,
+    alloc: Global,
+    mut files: MemFiles,
+) -> Result<Outcome, Fail> {
+    let mut out = MemSink::new(alloc, 4096, Vec::new(alloc))?;
+    let status = run_plan(rt, alloc, "p", &mut files, &mut out, &OpenGate);
+    Ok(Outcome {
+        code: status.code(),
+        files,
+        out,
+    })
+}
+
 /// Runs the plan `p` over these files.
 pub fn run<R: Wait + Threads + Sync>(
     rt: &R,
@@ -39,11 +54,5 @@ pub fn run<R: Wait + Threads + Sync>(
     for (name, bytes) in contents {
         files.put(name, bytes)?;
     }
-    let mut out = MemSink::new(alloc, 4096, Vec::new(alloc))?;
-    let status = run_plan(rt, alloc, "p", &mut files, &mut out, &OpenGate);
-    Ok(Outcome {
-        code: status.code(),
-        files,
-        out,
-    })
+    run_files(rt, alloc, files)
 }
