@@ -115,17 +115,17 @@ fn a_read_is_decided_by_what_came_before(rt: HostRuntime) -> Result<(), Fail> {
         ];
         let outcome = run(&rt, alloc, &contents)?;
         assert_eq!(rt; outcome.code, 0);
-        let at = 3 + *edits;
+        let at = edits.saturating_add(3);
         let mut records = Vec::from_slice(alloc, &[Record::Control(2, 0, 1, 1, 0, 1)])?;
         let next = match *status {
             Some(status) => {
                 records.push(Record::Answered(at, 1, 1, 2, status))?;
-                at + 1
+                at.saturating_add(1)
             }
             None => {
                 records.push(Record::Held(at, 1))?;
-                records.push(Record::WithBlock(at + 1, 1, 1, 2, 0))?;
-                at + 2
+                records.push(Record::WithBlock(at.saturating_add(1), 1, 1, 2, 0))?;
+                at.saturating_add(2)
             }
         };
         let want = response_file(alloc, &records)?;
@@ -138,11 +138,11 @@ fn a_read_is_decided_by_what_came_before(rt: HostRuntime) -> Result<(), Fail> {
             alloc,
             &[
                 Record::Answered(next, 0, 0, 1, 0x8002),
-                Record::Control(next + 1, 1, 0, 2, *refusal, *result),
+                Record::Control(next.saturating_add(1), 1, 0, 2, *refusal, *result),
             ],
         )?;
         if *refusal == 0 {
-            records.push(Record::NoEvent(next + 3, 2))?;
+            records.push(Record::NoEvent(next.saturating_add(3), 2))?;
         }
         let late = response_file(alloc, &records)?;
         assert_eq!(rt;
