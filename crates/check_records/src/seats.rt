@@ -47,7 +47,7 @@ fn may_stand(seat: &Seat, capsules: usize, place: u32, bound: u64) -> bool
     if seat.next < seat.front && (place < seat.next || place - seat.next != seat.earlier) {
         return false;
     }
-    let is_final = matches!(seat.cursor.stage, Stage::Ready)
+    let is_final = matches!(seat.cursor.stage, Stage::Ready | Stage::Ended)
         && seat.cursor.taken as usize == capsules;
     !is_final || bound <= place as u64
 }

@@ -53,8 +53,8 @@ fn is_final(cursor: &Cursor, capsules: usize) -> bool
     ensures { result ≡ is_final capsules (progress_at cursor.now) }
 {
     match cursor.stage {
-        Stage::Ready => cursor.taken as usize == capsules,
-        Stage::Holding | Stage::Through | Stage::Ended => false,
+        Stage::Ready | Stage::Ended => cursor.taken as usize == capsules,
+        Stage::Holding | Stage::Through => false,
     }
 }
 

@@ -13,7 +13,7 @@ use Rattle.tree_target.specs.Model.{Bound, Binding, Target, Call, Submit, Execut
 use Rattle.tree_target.specs.Steps.{reply_of, target_after}
 use Rattle.tree_target.specs.Stands.{StandsFor, Does, AreBound, IsBoundAs}
 use Rattle.run_transcript.specs.Turns.{Stage, Ready, Holding, Through, Progress, after_submit, after_call, first_call, next_by, next_capsule, next_call, is_admin_at, is_admin_bound}
-use Rattle.run_transcript.specs.Served.{is_ready, is_final}
+use Rattle.run_transcript.specs.Served.{owes_nothing, is_final}
 use Rattle.run_serving.specs.Goes.{IsSettled, IsAt, HasAll, HasEnded, EndsWithin, IsPolling, HasPolled}
 use Rattle.run_serving.proofs.Making.{Calls}
 
@@ -93,13 +93,13 @@ within (x ∷ file) (suc n) c at = let lt : n < length file = within file n c at
 unfinished : (t : Target) (queue n : ℕ) (file : List Capsule) (c : Capsule) (p : Progress)
     → IsSettled t queue n p → slice_get file n ≡ Some c → is_final (length file) p ≡ false
 unfinished t queue n file c p s at =
-    ap (λ m. is_ready p.stage && eqb m (length file)) s.taken_is
-    ∙ ap (λ b. is_ready p.stage && b) (less_differ n (length file) (within file n c at))
-    ∙ and_false (is_ready p.stage)
+    ap (λ m. owes_nothing p.stage && eqb m (length file)) s.taken_is
+    ∙ ap (λ b. owes_nothing p.stage && b) (less_differ n (length file) (within file n c at))
+    ∙ and_false (owes_nothing p.stage)
 
--- a stage that isn't Ready is none of a final poll
-unready : (capsules : ℕ) (stage : Stage) (n : ℕ) → is_ready stage ≡ false
-    → (is_ready stage && eqb n capsules) ≡ false
+-- where something is owed, no final poll comes next
+unready : (capsules : ℕ) (stage : Stage) (n : ℕ) → owes_nothing stage ≡ false
+    → (owes_nothing stage && eqb n capsules) ≡ false
 unready capsules stage n e = rw e refl
 
 -- the call of a fabrics command, and of another one

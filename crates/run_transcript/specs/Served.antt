@@ -43,15 +43,18 @@ AreFrom n [] = Unit {0}
 AreFrom n (x ∷ list) = (x.place ≡ n) × AreFrom (n + 1) list
 
 -- ---- final polls
-abbrev pub is_ready : Stage → Bool
-is_ready Ready = true
-is_ready Holding = false
-is_ready Through = false
-is_ready Ended = false
+-- no command is held and no poll is due for one
+abbrev pub owes_nothing : Stage → Bool
+owes_nothing Ready = true
+owes_nothing Holding = false
+owes_nothing Through = false
+owes_nothing Ended = true
 
--- what a queue calls next is a poll with nothing left to serve
+-- What a queue calls next is a poll with nothing left to serve. One behind a poll without event,
+-- which no run makes, is such a poll, too: a finished run that shows one is at fault there, and not at
+-- the poll before it.
 abbrev pub is_final : ℕ → Progress → Bool
-is_final capsules p = is_ready p.stage && (p.taken == capsules)
+is_final capsules p = owes_nothing p.stage && (p.taken == capsules)
 
 -- the final polls in what a queue did with a file of so many capsules
 abbrev pub finals_from : ℕ → Progress → List Placed → List Placed
