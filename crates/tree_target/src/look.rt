@@ -10,6 +10,7 @@ use mem_bdev::Disk;
 use sqe_cqe::{Ana, Controllers, Look, NsRow, Offers, Seen, ready};
 
 // An enabled namespace on the disk with this number.
+#[inline(always)]
 fn row_on(number: u8, disk: &Disk, namespace: &NamespaceRow) -> Seen
     requires { namespace.now.group ≤ 128 }
     ensures value { result ≡ Seen.On (row_of number disk.now namespace.now) }
@@ -26,6 +27,7 @@ fn row_on(number: u8, disk: &Disk, namespace: &NamespaceRow) -> Seen
 }
 
 // What stands at a namespace, on the disk whose number it keeps.
+#[inline(always)]
 fn seen_at(disks: &[Disk], namespace: &NamespaceRow) -> Seen
     requires { namespace.now.group ≤ 128 }
     ensures value { result ≡ seen_of disks.now (Some namespace.now) }
@@ -44,6 +46,7 @@ fn seen_at(disks: &[Disk], namespace: &NamespaceRow) -> Seen
 }
 
 // What stands at an NSID of the subsystem at a position.
+#[inline(always)]
 fn seen(tree: &Tree, disks: &[Disk], sub: u8, nsid: u32) -> Seen
     ensures value { result ≡ seen_of disks.now (space_in nsid (subsystem_row tree.now sub)) }
     ensures shape { HasShape result }
@@ -60,6 +63,7 @@ fn seen(tree: &Tree, disks: &[Disk], sub: u8, nsid: u32) -> Seen
 }
 
 // The state of a group at the port at a position, where it is made.
+#[inline(always)]
 fn group_at(tree: &Tree, port: u8, group: u32) -> Option<Ana>
     ensures { result ≡ group_in group (port_row tree.now port) }
 {
@@ -124,10 +128,12 @@ impl<'a> Look for TreeLook<'a> {
         ready(self.controllers, ctrl)
     }
 
+    #[inline(always)]
     fn ns(&mut self, sub: u8, nsid: u32) -> Seen {
         seen(self.tree, self.disks, sub, nsid)
     }
 
+    #[inline(always)]
     fn ana(&mut self, port: u8, group: u32) -> Ana {
         match group_at(self.tree, port, group) {
             None => Ana::Inaccessible,

@@ -50,6 +50,7 @@ impl Target {
     /// with the status of the first check that fails, or held. `number` is the capsule's number in
     /// its file, from 0. The queue's last command was executed. A command that is held asks for as
     /// many bytes of data, both ways, as its entry names. Takes no memory.
+    #[inline(always)]
     pub fn submit(&mut self, queue: u32, number: u32, e: &Sqe) -> Reply
         requires queue { HasQueue self.old queue }
         requires idle { IsIdle self.old queue }
@@ -83,6 +84,7 @@ impl Target {
 
     /// Executes the command that is held, with its capsule's data. A Read's bytes are appended to
     /// `to`, which has room for them, straight from the disk. Takes no memory.
+    #[inline(always)]
     pub fn execute(&mut self, queue: u32, number: u32, payload: &[u8], to: &mut Buffer) -> Reply
         requires held { IsTrue (holds self.old queue number) }
         requires data { HasHeldData self.old queue number (length payload.now) }
