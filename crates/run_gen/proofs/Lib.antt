@@ -1,4 +1,3 @@
-pub mod Adding
 pub mod Files
 pub mod Making
 pub mod Ending

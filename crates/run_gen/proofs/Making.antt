@@ -1,9 +1,6 @@
 -- A run of what was read, and its summary.
-use Rattle.std.proofs.Common.{◌≡◌, ℕ, List, [], ◌∷◌, Result, Ok, Err, refl, sym, ◌∙◌}
-use Rattle.run_transcript.specs.declared.capsule_files.CapsuleFile.{CapsuleFile}
-use Rattle.run_transcript.specs.declared.scripts.ScriptEdit.{ScriptEdit}
+use Rattle.std.proofs.Common.{◌≡◌, ℕ, List, [], ◌∷◌, Result, Ok, Err}
 use Rattle.run_transcript.specs.Runs.{Run}
-use Rattle.run_transcript.specs.Printing.{summary}
 use Rattle.run_outcomes.specs.declared.numbers.TheConstants.{PLAN}
 use Rattle.run_outcomes.specs.declared.faults.Fault.{Fault}
 use Rattle.run_outcomes.specs.Outsides.{Told, HoldsOf}
@@ -13,72 +10,33 @@ use Rattle.run_inputs.specs.InputFiles.{InputFile, input_files}
 use Rattle.run_inputs.specs.Known.{Known}
 use Rattle.run_inputs.specs.Reading.{ReadsSo, WasRead, AllWasRead}
 use Rattle.run_inputs.specs.Walk.{Then, Walk}
-use Rattle.run_serving.specs.declared.whole.Served.{Served}
-use Rattle.run_serving.specs.Ran.{IsPrintOf, Ran}
-use Rattle.run_serving.specs.Readiness.{files_of}
-use Rattle.run_gen.specs.Summed.{IsRunOf, IsSummed, Sums}
-use Rattle.run_gen.specs.Totals.{SummaryOf}
+use Rattle.run_prints.specs.Prints.{Makes}
+use Rattle.run_gen.specs.Summed.{IsRunOf, IsSummed}
 use Rattle.run_gen.specs.Written.{HoldsJust}
 use Rattle.run_gen.proofs.Files.{held_since}
 
-summary_is : (o : Served) (run : Run) (passed_over : ℕ) (text : List ℕ) → IsPrintOf o run
-    → run.passed_over ≡ passed_over → SummaryOf o passed_over text → text ≡ summary run
-unfolding summary
-summary_is o run passed_over text p same x = x.is ∙ rw (
-  p.places,
-  p.accepted,
-  p.refused,
-  p.drains,
-  x.are.submitted ∙ p.submitted,
-  x.are.executed ∙ p.executed,
-  x.are.refused ∙ p.commands_refused,
-  x.are.events ∙ p.events,
-  x.are.waiting ∙ p.waiting,
-  x.are.taken ∙ p.taken,
-  x.are.given ∙ p.given,
-  same,
-) refl
-
--- what serving made of what was read is a run of it
-pub sums : (s : Known) (o : Served) (script : List ScriptEdit) (files : List CapsuleFile)
-    (passed_over : ℕ) (text : List ℕ) → s.script ≡ script → s.files ≡ files_of files
-    → s.passed_over ≡ passed_over → Ran s.plan passed_over s.start script files o
-    → SummaryOf o passed_over text → Sums s text
-sums s o script files passed_over text same_script same_files same_count r is_text = record {
-  run = r.run;
-  plan = r.plan_is;
-  start = r.start_is;
-  passed_over = r.passed_over_is ∙ sym same_count;
-  script = r.script_is ∙ sym same_script;
-  files = r.files_are ∙ sym same_files;
-  ordered = r.ordered;
-  served = r.served;
-  legal = r.legal;
-  in_turn = r.in_turn;
-  is = summary_is o r.run passed_over text r.printed r.passed_over_is is_text;
-}
-
 -- by the name of the plan
-pub summed : (told : Told) (name : List ℕ) (s : Known) (text : List ℕ)
-    → AllWasRead told name s → Sums s text → IsSummed told name text
-summed told name s text read m = record {
+pub summed : (told : Told) (name : List ℕ) (s : Known) (records : List (List ℕ))
+    (written text : List ℕ) → AllWasRead told name s → Makes s records written text
+    → IsSummed told name text
+summed told name s records written text read m = record {
   run = m.run;
   made = record {
     read = record {
       known = s;
       was_read = read;
-      plan = m.plan;
-      start = m.start;
-      passed_over = m.passed_over;
-      script = m.script;
-      files = m.files;
+      plan = m.of.plan;
+      start = m.of.start;
+      passed_over = m.of.passed_over;
+      script = m.of.script;
+      files = m.of.files;
     };
     ordered = m.ordered;
     served = m.served;
     legal = m.legal;
     in_turn = m.in_turn;
   };
-  is = m.is;
+  is = m.printed.summary_is;
 }
 
 -- ---- the same files, where they stand

@@ -1,4 +1,3 @@
-pub mod Totals
 pub mod Written
 pub mod Summed
 pub mod Generated

@@ -1,6 +1,5 @@
 -- The run of a plan by one caller, and its summary.
 use Rattle.std.specs.Prelude.{◌≡◌, ℕ, List}
-use Rattle.run_inputs.specs.Known.{Known}
 use Rattle.run_inputs.specs.Ready.{IsRead}
 use Rattle.run_outcomes.specs.Outsides.{Told}
 use Rattle.run_transcript.specs.InTurn.{IsInTurn}
@@ -22,18 +21,4 @@ pub record IsRunOf (told : Told) (name : List ℕ) (run : Run) : Type 0 where
 pub record IsSummed (told : Told) (name text : List ℕ) : Type 0 where
   pub run : Run
   pub made : IsRunOf told name run
-  pub is : text ≡ summary run
-
--- the same of what was read
-pub record Sums (s : Known) (text : List ℕ) : Type 0 where
-  pub run : Run
-  pub plan : run.plan ≡ s.plan
-  pub start : run.start ≡ s.start
-  pub passed_over : run.passed_over ≡ s.passed_over
-  pub script : run.script ≡ s.script
-  pub files : run.files ≡ s.files
-  pub ordered : IsOrdered run
-  pub served : IsServed run
-  pub legal : IsLegalRun run
-  pub in_turn : IsInTurn run
   pub is : text ≡ summary run

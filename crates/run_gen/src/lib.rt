@@ -6,9 +6,7 @@
 //! `gen_files`.
 #![tactic(auto)]
 
-mod summary;
 mod summing;
-mod totals;
 mod whole;
 mod writing;
 

@@ -57,6 +57,7 @@ makes s o script files passed_over written text same_script same_files same_coun
       ordered = r.ordered;
       served = r.served;
       legal = r.legal;
+      in_turn = r.in_turn;
       printed = record {
         records_are = records_are o.outputs.items r.run.queues r.printed.records;
         journal_is = is_written ∙ rw (r.printed.places, r.printed.journal) refl;

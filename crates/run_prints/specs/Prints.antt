@@ -3,6 +3,7 @@ use Rattle.std.specs.Prelude.{◌≡◌, ℕ, List, map}
 use Rattle.run_inputs.specs.Known.{Known}
 use Rattle.run_transcript.specs.Runs.{Run, IsOrdered, IsLegalRun}
 use Rattle.run_transcript.specs.Served.{IsServed}
+use Rattle.run_transcript.specs.InTurn.{IsInTurn}
 use Rattle.run_transcript.specs.Printing.{responses, journal, summary}
 
 -- the run of what was read
@@ -20,7 +21,7 @@ pub record IsPrinted (run : Run) (records : List (List ℕ)) (journal_text summa
   pub journal_is : journal_text ≡ journal run
   pub summary_is : summary_text ≡ summary run
 
--- a run of what was read, ordered, served and legal, and its prints
+-- a run of what was read, ordered, served, legal and made by one caller in turn, and its prints
 pub record Makes (s : Known) (records : List (List ℕ)) (journal_text summary_text : List ℕ)
     : Type 0 where
   pub run : Run
@@ -28,4 +29,5 @@ pub record Makes (s : Known) (records : List (List ℕ)) (journal_text summary_t
   pub ordered : IsOrdered run
   pub served : IsServed run
   pub legal : IsLegalRun run
+  pub in_turn : IsInTurn run
   pub printed : IsPrinted run records journal_text summary_text

@@ -24,8 +24,8 @@ pub struct Printed {
     pub text: String,
 }
 
-/// Serves what was read by one caller, and makes the prints of that run: it is ordered, served and
-/// legal. Only memory may be wanting.
+/// Serves what was read by one caller in turn, and makes the prints of that run: it is ordered, served
+/// and legal. Only memory may be wanting.
 pub fn serve_inputs(alloc: Global, inputs: &mut PlanInputs) -> Result<Printed, AllocError>
     requires queues { length inputs.old.files.items ≡ length inputs.old.target.bindings }
     requires few_queues { length inputs.old.files.items ≤ MAX_QUEUES }
