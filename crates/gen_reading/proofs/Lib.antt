@@ -1,0 +1,4 @@
+pub mod Whole
+pub mod Within
+pub mod Files
+pub mod Plans

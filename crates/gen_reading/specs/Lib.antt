@@ -1,0 +1,2 @@
+pub mod Capsules
+pub mod Plans
