@@ -1,2 +1,3 @@
 pub mod Capsules
 pub mod Plans
+pub mod Scripts
