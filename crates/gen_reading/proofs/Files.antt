@@ -1,5 +1,5 @@
 -- What is read of generated queue files.
-use Rattle.std.proofs.Common.{◌≡◌, ◌≤◌, ◌<◌, ◌*◌, ◌-◌, ℕ, ◌+◌, List, [], ◌∷◌, ◌++◌, length, map, Ok, refl, sym, ap, subst, ◌∙◌, append_assoc, arith, length-append}
+use Rattle.std.proofs.Common.{◌≡◌, ◌≤◌, ◌<◌, ◌*◌, ℕ, ◌+◌, List, [], ◌++◌, length, map, Ok, refl, sym, subst, ◌∙◌, append_assoc, arith}
 use Rattle.std.proofs.lemmas.List.Concat.{flat_map-append}
 use Rattle.std.proofs.lemmas.List.Folds.{flat_map-map}
 use Rattle.std.proofs.lemmas.List.FromFn.{length-map-range_with_len}
@@ -7,12 +7,12 @@ use Rattle.std.proofs.lemmas.List.Sums.{sum_by-cons}
 use Rattle.std.specs.List.{AllByRecursion, flat_map, range_with_len, sum_by}
 use Rattle.sqe_cqe.specs.Sqe.{payload_len, direction_of}
 use Rattle.sqe_cqe.specs.declared.sqe.Sqe.{Sqe}
-use Rattle.plan_files.specs.Capsules.{Capsule, AreCapsules, AreWithin}
+use Rattle.plan_files.specs.Capsules.{Capsule, AreCapsules}
 use Rattle.plan_files.specs.CapsuleReading.{capsules_of}
 use Rattle.plan_files.specs.Rooms.{capsule_room}
 use Rattle.plan_files.proofs.Fitting.{are_read}
-use Rattle.gen_files.specs.Entries.{capsule_bytes, connect_bytes, connect_data, connect_names, connect_entry, enable_entry, event_entry, log_entry, zeros}
-use Rattle.gen_files.specs.Commands.{admin_queue_bytes, io_queue_bytes, commands, command_bytes, command_entry, command_data, draws, entries_from}
+use Rattle.gen_files.specs.Entries.{connect_bytes, connect_data, connect_names, connect_entry, enable_entry, event_entry, log_entry, zeros}
+use Rattle.gen_files.specs.Commands.{admin_queue_bytes, io_queue_bytes, entries_from}
 use Rattle.gen_reading.specs.Capsules.{with_payload, plain_capsules, admin_capsules, command_of, io_capsules}
 use Rattle.gen_reading.proofs.Whole.{IsSound, bytes_of, are_capsules}
 use Rattle.gen_reading.proofs.Within.{IsFine, made_fits, command_fine, command_low, all_range, all_both, all_give, rooms, commands_room, spare_small}

@@ -1,21 +1,21 @@
 -- A generated plan is read.
-use Rattle.std.proofs.Common.{◌≡◌, ◌≤◌, ◌<◌, ℕ, ◌+◌, Bool, true, false, ◌&&◌, eqb, ltb, leb, List, [], ◌∷◌, ◌++◌, length, map, Ok, refl, sym, ap, subst, ◌∙◌, append_assoc, arith, length-append, inl, inr}
+use Rattle.std.proofs.Common.{◌≡◌, ◌≤◌, ℕ, true, false, ◌&&◌, ltb, leb, List, [], ◌∷◌, ◌++◌, length, map, Ok, refl, sym, ap, ◌∙◌, append_assoc, arith, length-append, inl, inr}
 use Rattle.std.specs.Prelude.{codes}
 use Rattle.std.specs.Char.{is_ascii_graphic}
-use Rattle.std.specs.Fmt.{decimal, digits}
+use Rattle.std.specs.Fmt.{digits}
 use Rattle.std.specs.List.{AllByRecursion, list_all}
 use Rattle.std.specs.Str.{bytes_eq}
-use Rattle.std.proofs.lemmas.Bool.{and_parts, eq-eqb, le-leb, leb-true, lt-ltb}
+use Rattle.std.proofs.lemmas.Bool.{and_parts, eq-eqb, le-leb, leb-true}
 use Rattle.std.proofs.lemmas.Bool.Decides.{nat_tests}
 use Rattle.std.proofs.lemmas.List.{append-nil}
 use Rattle.std.proofs.lemmas.List.Folds.{list_all-append}
-use Rattle.text_lines.specs.Lines.{is_passed_over, lines_of}
+use Rattle.text_lines.specs.Lines.{is_passed_over}
 use Rattle.plan_files.specs.declared.items.Item.{Item}
 use Rattle.plan_files.specs.declared.items.Item.TheVariants.{Disk, Config, Script, Journal, Queue}
 use Rattle.plan_files.specs.declared.items.Plan.{Plan}
 use Rattle.plan_files.specs.declared.line_items.TheConstants.{MAX_NAME}
 use Rattle.plan_files.specs.Spelling.{spelling, fits, fits_disk, fits_queue, is_name}
-use Rattle.plan_files.specs.Plans.{IsPlan, Makes, IsAllowed, no_plan, with_item, is_new, is_free, agrees, item_bytes, total_of, is_complete}
+use Rattle.plan_files.specs.Plans.{Makes, IsAllowed, no_plan, with_item, is_new, is_free, agrees, item_bytes, is_complete}
 use Rattle.plan_files.specs.PlanReading.{plan_in}
 use Rattle.plan_files.proofs.PlanLaws.{plan_is_read}
 use Rattle.response_files.proofs.Rows.{IsLine, ended, rows_cut}

@@ -1,5 +1,5 @@
 -- A generated script is read.
-use Rattle.std.proofs.Common.{◌≡◌, ℕ, ◌+◌, ◌*◌, Bool, false, List, [], ◌∷◌, take, Some, None, Ok, refl, ◌∙◌, arith, inl, take_all}
+use Rattle.std.proofs.Common.{◌≡◌, ℕ, ◌+◌, ◌*◌, false, List, [], ◌∷◌, Some, None, Ok, refl, arith, inl, take_all}
 use Rattle.std.specs.Prelude.{codes, position}
 use Rattle.std.specs.List.{AllByRecursion, flat_map, range_with_len}
 use Rattle.text_lines.specs.Lines.{is_passed_over, lines_of}

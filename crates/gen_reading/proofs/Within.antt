@@ -1,5 +1,5 @@
 -- Generated capsules are sound, and within the limits on a file.
-use Rattle.std.proofs.Common.{◌≡◌, ◌≤◌, ◌<◌, ◌⊎◌, ◌^◌, ◌%◌, ◌/◌, ◌*◌, ◌-◌, ℕ, zero, suc, ◌+◌, Bool, true, false, cond, eqb, leb, List, [], ◌∷◌, ◌++◌, length, map, refl, sym, ap, subst, ◌∙◌, arith, inl, inr, mod-lt}
+use Rattle.std.proofs.Common.{◌≡◌, ◌≤◌, ◌<◌, ◌⊎◌, ◌%◌, ◌/◌, ◌*◌, ◌-◌, ℕ, zero, suc, ◌+◌, Bool, true, false, cond, eqb, leb, List, [], ◌∷◌, ◌++◌, length, map, refl, arith, inl, inr}
 use Rattle.std.proofs.lemmas.Bool.{eqb-true, eqb-false, eq-eqb, cases_lt, cases_Bool}
 use Rattle.std.proofs.lemmas.List.FromFn.{length-map-range_with_len}
 use Rattle.std.proofs.lemmas.List.Sums.{sum_by-cons}
@@ -9,7 +9,7 @@ use Rattle.sqe_cqe.specs.declared.sqe.Sqe.{Sqe}
 use Rattle.plan_files.specs.Capsules.{Capsule}
 use Rattle.plan_files.specs.Rooms.{capsule_room}
 use Rattle.gen_files.specs.Entries.{plain_entry}
-use Rattle.gen_files.specs.Commands.{command_entry, command_data, opcode_of, nsid_of, block_of, blocks_of, moved_by, pattern}
+use Rattle.gen_files.specs.Commands.{command_entry, command_data, nsid_of, block_of, blocks_of, pattern}
 use Rattle.gen_reading.specs.Capsules.{with_payload}
 use Rattle.response_files.proofs.Fields.{AreFitting}
 use Rattle.gen_reading.proofs.Whole.{IsSound}
