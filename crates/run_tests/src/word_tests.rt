@@ -1,6 +1,8 @@
 // The four commands by their words, and words that are none.
+use crate::capsules::entry;
 use nvmet_run::command;
 use plan_files::{MemFiles, MemSink, OpenGate};
+use sqe_cqe::write_sqe;
 use std::alloc::Global;
 use std::sync::Wait;
 use std::test::Fail;
@@ -90,5 +92,44 @@ fn names_of_gen_end_at_200_bytes(rt: HostRuntime) -> Result<(), Fail> {
     name.push_str("n")?;
     let (status, _) = answer(&rt, alloc, &["gen", "1", name.as_str()], &mut files)?;
     assert_eq!(rt; (status, files.count()), (1, 7));
+    Ok(())
+}
+
+// What is done to r1 behind a run: one byte of it is another, and only so many bytes are left. The
+// exit status of its check, and the line.
+const DAMAGES: &[(usize, u8, usize, u8, &[u8])] = &[
+    (32, 1, 4224, 0, b"legal 4\n"),
+    (32, 3, 4224, 8, b"not legal place 1 place\n"),
+    (4223, 2, 4224, 8, b"not legal place 3 bytes\n"),
+    (32, 1, 96, 8, b"not legal place 3 order\n"),
+    (36, 9, 4224, 2, b"malformed r1 offset 32\n"),
+];
+
+// A Write of eight blocks of byte 1 and a Read of the same are run, and r1 is checked as it was left,
+// and damaged.
+#[test]
+fn a_run_is_checked_as_it_was_left_and_damaged(rt: HostRuntime) -> Result<(), Fail> {
+    let alloc = rt.alloc();
+    let mut files = MemFiles::new(alloc, Vec::new(alloc));
+    files.put("p", PLAN)?;
+    let mut q1 = Vec::from_slice(alloc, &write_sqe(&entry(1, 1, 1, 0, 7, 4096)))?;
+    q1.extend_from_slice(&[1; 4096])?;
+    q1.extend_from_slice(&write_sqe(&entry(2, 2, 1, 0, 7, 4096)))?;
+    files.put("q1", &q1)?;
+    let (status, _) = answer(&rt, alloc, &["run", "p"], &mut files)?;
+    assert_eq!(rt; status, 0);
+    let whole = Vec::from_slice(alloc, files.content("r1").unwrap_or(&[]))?;
+    assert_eq!(rt; whole.len(), 4224);
+    for (at, byte, length, code, line) in DAMAGES {
+        let mut r1 = Vec::from_slice(alloc, &whole)?;
+        if let Some(b) = r1.get_mut(*at) {
+            *b = *byte;
+        }
+        r1.truncate(*length);
+        files.put("r1", &r1)?;
+        let (status, out) = answer(&rt, alloc, &["check", "p"], &mut files)?;
+        assert_eq!(rt; status, *code);
+        assert_eq!(rt; out.bytes(), *line);
+    }
     Ok(())
 }
