@@ -1,5 +1,5 @@
 -- For an Execute over any number of extents.
-use Rattle.std.proofs.Common.{◌≡◌, ◌≢◌, inl, inr, ℕ, ◌+◌, ◌-◌, ◌<◌, ◌==◌, ◌&&◌, Bool, true, false, cond, List, [], ◌∷◌, ◌++◌, length, get_or, sym, refl, ap, ◌∙◌, subst, arith, Option, Some, None, eq-eqb, ne_eqb, append_assoc}
+use Rattle.std.proofs.Common.{IfNone, ◌≡◌, ◌≢◌, inl, inr, ℕ, ◌+◌, ◌-◌, ◌*◌, ◌<◌, ◌==◌, ◌&&◌, Bool, true, false, cond, List, [], ◌∷◌, ◌++◌, length, get_or, sym, refl, ap, ◌∙◌, subst, arith, Option, Some, None, eq-eqb, ne_eqb, append_assoc}
 use mathlib.Core.Logic.{dite}
 use native.Mathlib.Decide.{ℕ_discrete}
 use Rattle.atomic_table.specs.Table.{Me, rest}
@@ -11,11 +11,12 @@ use Rattle.ref_state.specs.Soundness.{Every}
 use Rattle.ref_state.proofs.Lists.{some_is}
 use Rattle.table_rule.specs.declared.rule.Told.{Told}
 use Rattle.table_rule.specs.Meant.{Meaning, target, Legal, LegalFrom, is_named}
+use Rattle.table_rule.specs.Counted.{Counted}
 use Rattle.table_rule.specs.Words.{at, TurnOf}
 use Rattle.table_rule.specs.Plays.{Took, Executed, StillStands, executed, IsInHand}
 use Rattle.table_rule.proofs.Histories.{target_snoc}
 use Rattle.table_rule.proofs.Waiting.{every_all}
-use Rattle.extent_executes.specs.Executes.{turn_of, Reached, TookOut, Stopped, Ran}
+use Rattle.extent_executes.specs.Executes.{turn_of, Reached, TookOut, Stopped, Ran, LastTried}
 
 nil_right : {A : Type 0} (xs : List A) → xs ≡ xs ++ []
 nil_right [] = refl
@@ -60,6 +61,25 @@ reached_next {S} slots i a b l is near rising r = subst (Reached slots (i + 1)) 
     later : (p : Turn → Bool) (xs : List Turn) (b : Bool) (y : Turn) → Some_where p xs → (z : Turn) × (cond b (Some y) (first p xs) ≡ Some z)
     later p xs true y x = (y, refl)
     later p xs false y x = x
+
+-- ## The last try, and how many steps there were
+
+pub none_or : {A X : Type 0} (o : Option A) → X → IfNone o X
+none_or None x = x
+none_or (Some y) x = tt
+
+pub tried_first : {S : Type 0} (n word : ℕ) (a b : Me (Option S) Told) → b ≡ lost n word a → LastTried n b
+tried_first {S} n word a b e = record { word = word; before = a.0.found; found_is = ap (λ (z : Me (Option S) Told). z.0.found) e }
+
+-- an extent that is put back leaves it
+pub tried_next : {S : Type 0} (slots : List ℕ) (n i k : ℕ) (c d : Me (Option S) Told) → d ≡ given k c → LastTried (get_or slots (n + (i + 1)) 0) c → LastTried (get_or slots (n + 1 + i) 0) d
+tried_next {S} slots n i k c d back l = let same : n + (i + 1) ≡ n + 1 + i = omega arith in
+    subst (λ j. LastTried (get_or slots j 0) d) same record { word = l.word; before = l.before; found_is = ap (λ (z : Me (Option S) Told). z.0.found) back ∙ l.found_is }
+
+pub more_ticks : (n : ℕ) (a b c d : Counted) → b ≡ record a { turn = a.turn + 2 } → c ≡ record b { turn = b.turn + (4 * n + 1) } → d ≡ record c { turn = c.turn + 2 } → d ≡ record a { turn = a.turn + (4 * (n + 1) + 1) }
+more_ticks n a b c d first inner last = let sum : a.turn + 2 + (4 * n + 1) + 2 ≡ a.turn + (4 * (n + 1) + 1) = omega arith in
+    last ∙ (ap (λ (z : Counted). record z { turn = z.turn + 2 }) inner
+    ∙ (ap (λ (z : Counted). record z { turn = z.turn + (4 * n + 1) + 2 }) first ∙ ap (λ k. record a { turn = k }) sum))
 
 module _ {T X Y R S : Type 0} (m : Meaning T X Y R S) where
   -- what a legal history begins with is legal

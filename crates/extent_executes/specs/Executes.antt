@@ -21,6 +21,12 @@ pub record Reached {S : Type 0} (slots : List ℕ) (i : ℕ) (a : Me (Option S) 
   pub free : (j : ℕ) → i ≤ j → j < length slots
       → first (is_slot (slice_index slots j)) a.0.view.turns ≡ None
 
+-- the word that the last look found is that of this slot's turn
+pub record LastTried {S : Type 0} (slot : ℕ) (a : Me (Option S) Told) : Type 0 where
+  pub word : ℕ
+  pub before : List (ℕ × ℕ)
+  pub found_is : a.0.found ≡ (at (TurnOf slot), word) ∷ before
+
 module _ {T X Y R S : Type 0} (m : Meaning T X Y R S) where
   -- the extent of a slot was moved out: it stands for the target's blocks there, and the seat knows
   -- the whole history so far

@@ -1,9 +1,9 @@
 //! One try at an Execute: its turns in rising order, its place, and its extents back.
-ghost use Rattle.std.specs.Prelude.{◌≡◌, ◌≢◌, ◌<◌, ◌≤◌, ◌+◌, ◌*◌, ◌∷◌, ℕ, true, Some, None, IfSome, IfNone, length, slice_index};
+ghost use Rattle.std.specs.Prelude.{◌≡◌, ◌≢◌, ◌<◌, ◌≤◌, ◌+◌, ◌-◌, ◌*◌, ◌∷◌, ℕ, true, Some, None, IfSome, IfNone, length, slice_index};
 ghost use Rattle.atomic_table.specs.Table.{rest};
 ghost use Rattle.ref_state.specs.Steps.{first, without, is_slot, is_home_slot, Some_where, least, is_held};
 ghost use Rattle.table_rule.specs.Meant.{target};
-ghost use Rattle.extent_executes.specs.Executes.{Reached, TookOut, Stopped, Ran};
+ghost use Rattle.extent_executes.specs.Executes.{Reached, TookOut, Stopped, Ran, LastTried};
 
 use crate::works::Work;
 use ref_state::kinds::Tag;
@@ -40,7 +40,10 @@ fn take_out<S, M: Means<S>, L: Ledger>(
     ensures left { seat.new.left ≡ seat.old.left }
     ensures hold { least (is_held call hold.disk) seat.new.base.me.0.view.holds ≡ Some hold }
     ensures stopped { IfNone result (Stopped M.means slots.now seat.old.base.me seat.new.base.me) }
-    ensures ticks { steps.new.turn ≤ steps.old.turn + 2 }
+    ensures ticks { IfSome result (λ x. steps.new
+        ≡ record steps.old { turn = steps.old.turn + 2 }) }
+    ensures tried { IfNone result (LastTried (slice_index slots.now i) seat.new.base.me
+        × (steps.new ≡ record steps.old { turn = steps.old.turn + 1 })) }
 {
     let _ = (call, hold);
     let slot = slots[i];
@@ -110,6 +113,13 @@ fn run_from<S: Drop, M: Means<S>, W: Work<S, M>, L: Ledger>(
     ensures ran { IfSome result (λ place. (serial : ℕ) × Ran M.means call hold seat.old.base.me
         seat.new.base.me place serial) }
     ensures stopped { IfNone result (Stopped M.means slots.now seat.old.base.me seat.new.base.me) }
+    ensures ticks { IfSome result (λ place. steps.new ≡ record steps.old {
+      turn = steps.old.turn + 4 * (length slots.now - i);
+      clock = steps.old.clock + 1;
+    }) }
+    ensures tried { IfNone result ((n : ℕ) × (n + i < length slots.now)
+        × LastTried (slice_index slots.now (n + i)) seat.new.base.me
+        × (steps.new ≡ record steps.old { turn = steps.old.turn + (4 * n + 1) })) }
 {
     if i == slots.len() {
         return Some(table.place_execute(seat, call, hold, steps));
@@ -133,6 +143,9 @@ fn run_from<S: Drop, M: Means<S>, W: Work<S, M>, L: Ledger>(
 /// the place of the Execute, counted from 0, or nothing where a turn was found taken, with every
 /// extent at home again as it was. `slots` has the slots of the command's extents in rising order,
 /// each 8 times the disk plus the extent; `hold` is the command's, the one with the least place.
+///
+/// It takes four steps an extent and one on the clock; where the n-th turn, counted from 0, was
+/// found taken, it takes four for each of the n extents before and one for that try.
 pub fn execute<S: Drop, M: Means<S>, W: Work<S, M>, L: Ledger>(
     table: &TargetTable<S, M>,
     seat: &mut Seat<S>,
@@ -162,6 +175,13 @@ pub fn execute<S: Drop, M: Means<S>, W: Work<S, M>, L: Ledger>(
     ensures ran { IfSome result (λ place. (serial : ℕ) × Ran M.means call hold seat.old.base.me
         seat.new.base.me place serial) }
     ensures stopped { IfNone result (Stopped M.means slots.now seat.old.base.me seat.new.base.me) }
+    ensures ticks { IfSome result (λ place. steps.new ≡ record steps.old {
+      turn = steps.old.turn + 4 * length slots.now;
+      clock = steps.old.clock + 1;
+    }) }
+    ensures tried { IfNone result ((n : ℕ) × (n < length slots.now)
+        × LastTried (slice_index slots.now n) seat.new.base.me
+        × (steps.new ≡ record steps.old { turn = steps.old.turn + (4 * n + 1) })) }
 {
     run_from(table, seat, work, call, hold, slots, 0, steps)
 }

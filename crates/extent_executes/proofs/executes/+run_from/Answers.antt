@@ -1,10 +1,11 @@
-use Rattle.std.proofs.Common.{◌≡◌, ℕ, List, Some, get_or, subst, arith}
+use Rattle.std.proofs.Common.{◌≡◌, ℕ, ◌+◌, ◌*◌, ◌<◌, List, Some, None, length, get_or, subst, arith}
 use Rattle.ref_state.specs.declared.kinds.Tag.{Tag}
 use Rattle.ref_state.specs.declared.state.Hold.{Hold}
 use Rattle.ref_state.specs.Steps.{first, is_slot, Some_where}
 use Rattle.table_rule.specs.Meant.{is_named, target, Legal}
 use Rattle.table_rule.specs.Plays.{IsInHand}
-use Rattle.extent_executes.specs.Executes.{TookOut, Stopped, Ran}
+use Rattle.table_rule.specs.Counted.{Counted}
+use Rattle.extent_executes.specs.Executes.{TookOut, Stopped, Ran, LastTried}
 use Rattle.extent_executes.proofs.Executing as executing
 use Rattle.extent_executes.proofs.executes.+run_from.Goals as goal
 
@@ -58,3 +59,18 @@ pub returns-in-None-clause-stopped : goal.returns-in-None-clause-stopped
 returns-in-None-clause-stopped g t c = let o : TookOut g.M.Means.means (get_or c.args.slots.now c.args.i 0) c.in_ok-value.value c.args.seat.now.base.me c.take_out.new.seat.base.me = rw c.in_ok-value.was at c.take_out.ensures.took in
     let s : Stopped g.M.Means.means c.args.slots.now c.take_out.new.seat.base.me c.run_from.new.seat.base.me = rw c.in-None.is at c.run_from.ensures.stopped in
     executing.stopped_next g.M.Means.means (get_or c.args.slots.now c.args.i 0) c.in_ok-value.value c.args.seat.now.base.me c.take_out.new.seat.base.me c.run_from.new.seat.base.me o c.args.slots.now s c.put_back-in-None.new.seat.base.me c.put_back-in-None.ensures.view
+
+pub returns-in_err-value-clause-tried : goal.returns-in_err-value-clause-tried
+returns-in_err-value-clause-tried g t c = let i = c.args.i in let slots = c.args.slots.now in
+    let e : LastTried (get_or slots i 0) c.take_out.new.seat.base.me × (c.take_out.new.steps ≡ record c.args.steps.now { turn = c.args.steps.now.turn + 1 }) = rw c.in_err-value.was at c.take_out.ensures.tried in
+    executing.none_or c.from_residual.result (0, (let h = c.requires.inside in let ne = c.if-i-slots.false in omega arith), subst (λ k. LastTried (get_or slots k 0) c.take_out.new.seat.base.me) (let same : i ≡ 0 + i = omega arith in same) e.0, e.1)
+
+pub returns-in-None-clause-tried : goal.returns-in-None-clause-tried
+returns-in-None-clause-tried g t c = let i = c.args.i in let slots = c.args.slots.now in
+    let e : c.take_out.new.steps ≡ record c.args.steps.now { turn = c.args.steps.now.turn + 2 } = rw c.in_ok-value.was at c.take_out.ensures.ticks in
+    let r : (n : ℕ) × (n + (i + 1) < length slots) × LastTried (get_or slots (n + (i + 1)) 0) c.run_from.new.seat.base.me × (c.run_from.new.steps ≡ record c.take_out.new.steps { turn = c.take_out.new.steps.turn + (4 * n + 1) }) = rw c.in-None.is at c.run_from.ensures.tried in (
+      r.0 + 1,
+      (let h = r.1 in omega arith),
+      executing.tried_next slots r.0 i (get_or slots i 0) c.run_from.new.seat.base.me c.put_back-in-None.new.seat.base.me c.put_back-in-None.ensures.view r.2,
+      executing.more_ticks r.0 c.args.steps.now c.take_out.new.steps c.run_from.new.steps c.put_back-in-None.new.steps e r.3 c.put_back-in-None.ensures.ticks,
+    )

@@ -22,3 +22,7 @@ pub returns-clause-hold : goal.returns-clause-hold
 returns-clause-hold g c = let got : c.take_turn.result ≡ true = search rules in let t = c.take_turn.ensures.took got in
     ap (λ (z : Me (Rattle.std.specs.Prelude.Option g.row.S.Denot) Told). least (is_held c.args.call c.args.hold.disk) z.0.view.holds) c.slot_out.ensures.view
     ∙ (ap (λ (z : Told). least (is_held c.args.call c.args.hold.disk) z.view.holds) t.told ∙ c.requires.hold)
+
+pub returns-then-not-take_turn-clause-tried : goal.returns-then-not-take_turn-clause-tried
+returns-then-not-take_turn-clause-tried g c = let lost : c.take_turn.result ≡ false = search rules in let t = c.take_turn.ensures.taken lost in
+    (executing.tried_first (get_or c.args.slots.now c.args.i 0) t.0 c.args.seat.now.base.me c.take_turn.new.seat.base.me t.2, c.take_turn.ensures.ticks)
