@@ -46,14 +46,14 @@ pub fn read_pair<L: Ledger>(
 }
 
 /// A bare call in a section of its own that gets a hold on this disk, where the disk is shown
-/// there: seven steps at most.
+/// there, with its place and serial: seven steps at most.
 pub fn take_hold<L: Ledger>(
     table: &Table,
     seat: &mut Seat<u64>,
     disk: u32,
     number: u32,
     steps: &mut Steps<L>,
-) -> Option<Hold<u64>>
+) -> (u32, u32, Option<Hold<u64>>)
     requires own { seat.old.base.table_id ≡ table.now.table.shared.table_id }
     requires plan { (table.now.table.shared.key.rows ≡ 2) × (table.now.table.shared.key.disks ≡ 2) }
     requires near { disk < 2 }
@@ -63,7 +63,7 @@ pub fn take_hold<L: Ledger>(
     ensures number { seat.new.number ≡ seat.old.number }
     ensures rests { Rests seat.new.number seat.new.base.me.0 }
     ensures left { seat.new.left + 1 ≡ seat.old.left }
-    ensures hold { IfSome result (λ h. (h.disk ≡ disk)
+    ensures hold { IfSome result.2 (λ h. (h.disk ≡ disk)
         × (h.part.base.table_id ≡ seat.old.base.table_id)
         × MayPut (the_hold h.part.base.me.0.view.holds)) }
     ensures steps { all_steps steps.new ≤ all_steps steps.old + 7 }
@@ -74,25 +74,26 @@ pub fn take_hold<L: Ledger>(
         number,
     };
     let mut section = enter(table, seat, steps);
-    let (_at, _serial) = place(table, &mut section, call, steps);
+    let (at, serial) = place(table, &mut section, call, steps);
     let shown = row(table, &mut section, disk, steps);
     if shown == 0 {
         leave(table, section, steps);
-        return None;
+        return (at, serial, None);
     }
     let hold = get(table, &mut section, disk, steps);
     leave(table, section, steps);
-    Some(hold)
+    (at, serial, Some(hold))
 }
 
-/// Gets a hold on this disk in one section, where the disk is shown, and puts it in another.
+/// Gets a hold on this disk in one section, where the disk is shown, and puts it in another: the
+/// place and serial of the call that gets it, and what the put answers.
 pub fn hold_once<L: Ledger>(
     table: &Table,
     seat: &mut Seat<u64>,
     disk: u32,
     number: u32,
     steps: &mut Steps<L>,
-) -> Option<Put>
+) -> (u32, u32, Option<Put>)
     requires own { seat.old.base.table_id ≡ table.now.table.shared.table_id }
     requires plan { (table.now.table.shared.key.rows ≡ 2) × (table.now.table.shared.key.disks ≡ 2) }
     requires near { disk < 2 }
@@ -103,8 +104,11 @@ pub fn hold_once<L: Ledger>(
     ensures rests { Rests seat.new.number seat.new.base.me.0 }
     ensures left { seat.new.left + 1 ≡ seat.old.left }
 {
-    let hold = take_hold(table, seat, disk, number, steps)?;
-    Some(put_back(table, seat, hold, steps))
+    let (at, serial, hold) = take_hold(table, seat, disk, number, steps);
+    match hold {
+        Some(hold) => (at, serial, Some(put_back(table, seat, hold, steps))),
+        None => (at, serial, None),
+    }
 }
 
 /// Puts a hold that this seat or another got.

@@ -76,7 +76,8 @@ fn put_elsewhere<L: Ledger>(alloc: Global, blank: Blank) -> Result<Option<(Put, 
         four: _,
     } = queues;
     let mut steps = Steps::<L>::start(blank);
-    let Some(hold) = take_hold(&table, &mut one, 0, 0, &mut steps) else {
+    let (_, _, hold) = take_hold(&table, &mut one, 0, 0, &mut steps);
+    let Some(hold) = hold else {
         return Ok(None);
     };
     let put = put_back(&table, &mut two, hold, &mut steps);
@@ -118,10 +119,12 @@ fn put_both<L: Ledger>(
         four: _,
     } = queues;
     let mut steps = Steps::<L>::start(blank);
-    let Some(first) = take_hold(&table, &mut one, 0, 0, &mut steps) else {
+    let (_, _, first) = take_hold(&table, &mut one, 0, 0, &mut steps);
+    let Some(first) = first else {
         return Ok(None);
     };
-    let Some(second) = take_hold(&table, &mut one, 0, 1, &mut steps) else {
+    let (_, _, second) = take_hold(&table, &mut one, 0, 1, &mut steps);
+    let Some(second) = second else {
         let _ = put_back(&table, &mut one, first, &mut steps);
         return Ok(None);
     };

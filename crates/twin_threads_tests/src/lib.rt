@@ -3,6 +3,8 @@
 #![tactic(auto)]
 
 #[cfg(test)]
+mod drain_replay;
+#[cfg(test)]
 mod drain_threads;
 #[cfg(test)]
 mod reader_threads;

@@ -54,7 +54,7 @@ fn edit_all<L: Ledger>(table: &Table, editor: Editor<u64>, steps: Steps<L>) -> b
     let mut editor = editor;
     let mut number = 0;
     while number < EDITS {
-        if !edit_until(table, &mut editor, number + 2, &mut steps) {
+        if edit_until(table, &mut editor, number + 2, &mut steps).is_none() {
             return false;
         }
         number += 1;

@@ -1,4 +1,4 @@
-use Rattle.twin_threads_tests.proofs.drain_threads.every_drain_ends.Given as goal
+use Rattle.twin_threads_tests.proofs.drain_threads.records_under_drains_are_the_replay.Given as goal
 
 abbrev pub ghosts-drain_under_fire-A-Ledger : goal.ghosts-drain_under_fire-A-Ledger
 ghosts-drain_under_fire-A-Ledger g a = record { name = a.first.name; parts = 5 }
