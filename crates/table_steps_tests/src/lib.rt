@@ -16,3 +16,5 @@ mod parts_tests;
 mod section_tests;
 #[cfg(test)]
 mod turn_tests;
+#[cfg(test)]
+mod wide_tests;
