@@ -9,3 +9,5 @@ pub mod Edited
 pub mod Drains
 pub mod Controls
 pub mod Answered
+pub mod Identified
+pub mod Patched

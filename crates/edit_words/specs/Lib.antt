@@ -4,3 +4,5 @@ pub mod Laws
 pub mod Controls
 pub mod Answered
 pub mod Memory
+pub mod Identifiers
+pub mod Patching

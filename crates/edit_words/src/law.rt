@@ -1,7 +1,9 @@
 //! Laws of the words that calls turn. A law is the contract of a function that does nothing.
 ghost use Rattle.edit_words.specs.Controls.{ConnectsLeaveWords, ControlsChangeReadiness, ControlsTurn, RaisedKeepsStamps};
+ghost use Rattle.edit_words.specs.Identifiers.{ControlsKeepIdentifiers, DrainsKeepIdentifiers, EditsKeepIdentifiers, NothingLacksIdentifiers};
 ghost use Rattle.edit_words.specs.Laws.{DrainsLeaveWords, EditsFit, EditsKeep, EditsTurn};
 ghost use Rattle.edit_words.specs.Memory.{TableIsSmall};
+ghost use Rattle.edit_words.specs.Patching.{TurnedWordsPatch};
 
 /// An accepted edit, of a folder or of a link, keeps what the patch of its words rests on: a
 /// namespace that is enabled before or after it keeps the number of its disk, and a subsystem or a
@@ -20,6 +22,22 @@ pub fn edits_fit()
 /// and its new value, once, and no other.
 pub fn edits_turn()
     ensures { EditsTurn }
+{}
+
+/// The words before an edit, with those that it turned put in place, are the words after it: so the
+/// words of `edit` are all that has to be published.
+pub fn turned_words_patch()
+    ensures { TurnedWordsPatch }
+{}
+
+/// The UUID and the NGUID of each namespace are of 16 bytes, as `FitsTable` of `ns_table` asks: in
+/// the empty tree, and after every accepted edit, end of a drain and fabrics command on a tree where
+/// they are.
+pub fn identifiers_are_kept()
+    ensures start { NothingLacksIdentifiers }
+    ensures edits { EditsKeepIdentifiers }
+    ensures drains { DrainsKeepIdentifiers }
+    ensures controls { ControlsKeepIdentifiers }
 {}
 
 /// The end of a drain leaves all words.
