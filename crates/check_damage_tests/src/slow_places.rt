@@ -1,5 +1,5 @@
 // Questions about the places of a run, each answered by a look at all records and lines.
-use run_check_tests::{CONTROL, Capsule, EXECUTE, Finished, Part, Record, SUBMIT};
+use run_check_tests::{CONTROL, Capsule, EXECUTE, Finished, POLL, Part, Record, SUBMIT};
 
 // How many records of a queue have this place.
 fn times_in(records: &[Record], place: u32) -> u32 {
@@ -98,18 +98,19 @@ fn before(records: &[Record], at: usize) -> (usize, u8) {
     (taken, last)
 }
 
-// Whether a record stands where final polls do: behind as many submits and controls as there are
+// Whether a record is a final poll: a poll behind as many submits and controls as there are
 // capsules, and not right behind a submit or an execute.
-fn is_at_end(records: &[Record], at: usize, capsules: usize) -> bool {
+fn is_final_poll(records: &[Record], at: usize, capsules: usize) -> bool {
+    let is_poll = records.get(at).is_some_and(|record| record.kind == POLL);
     let (taken, last) = before(records, at);
-    taken == capsules && last != SUBMIT && last != EXECUTE
+    is_poll && taken == capsules && last != SUBMIT && last != EXECUTE
 }
 
-// Whether a queue has a record at this place, or above it, that stands before its final polls.
+// Whether a queue has a record at this place, or above it, that is no final poll.
 fn has_other_from(records: &[Record], capsules: &[Capsule], place: u32) -> bool {
     for at in 0..records.len() {
         let is_above = records.get(at).is_some_and(|record| place <= record.place);
-        if is_above && !is_at_end(records, at, capsules.len()) {
+        if is_above && !is_final_poll(records, at, capsules.len()) {
             return true;
         }
     }

@@ -1,6 +1,6 @@
 -- From which place on all that is no final poll stands below.
-use Rattle.std.proofs.Common.{◌≡◌, ◌≤◌, ◌<◌, ℕ, ◌+◌, Bool, true, false, List, [], ◌∷◌, ◌++◌, length, drop, get_or, refl, sym, subst, arith}
-use Rattle.std.specs.Prelude.{◌↔◌}
+use Rattle.std.proofs.Common.{◌≡◌, ◌≤◌, ◌<◌, ℕ, ◌+◌, ◌&&◌, Bool, true, false, List, [], ◌∷◌, ◌++◌, length, drop, get_or, refl, sym, ap, subst, ◌∙◌, arith}
+use Rattle.std.specs.Prelude.{◌↔◌, ◌==◌}
 use Rattle.std.specs.List.{AllByRecursion}
 use Rattle.plan_files.specs.Capsules.{Capsule}
 use Rattle.response_files.specs.Responses.{Response}
@@ -8,16 +8,16 @@ use Rattle.journal_text.specs.declared.lines.JournalLine.{JournalLine}
 use Rattle.run_transcript.specs.declared.scripts.ScriptEdit.{ScriptEdit}
 use Rattle.run_transcript.specs.Runs.{Placed}
 use Rattle.run_transcript.specs.Turns.{Progress, Editing, nothing_done, nothing_edited, after_entry, editing_after}
-use Rattle.run_transcript.specs.Served.{is_final, body_from, body_of, bodies}
+use Rattle.run_transcript.specs.Served.{is_final, is_poll, is_final_poll, body_from, body_of, bodies}
 use Rattle.check_records.specs.Seats.{place_of_line}
-use Rattle.check_records.specs.Told.{editor_told, editor_told_from, entry_told, line_told, queue_told, queue_told_from, queues_told}
+use Rattle.check_records.specs.Told.{call_told, poll_told, editor_told, editor_told_from, entry_told, line_told, queue_told, queue_told_from, queues_told}
 use Rattle.run_records.specs.declared.records.Kind.{Kind}
 use Rattle.run_records.specs.declared.records.Kind.TheVariants as kinds
 use Rattle.tree_target.specs.declared.calls.Reply.{Reply}
 use Rattle.check_records.specs.declared.cursor.Cursor.{Cursor}
 use Rattle.check_records.specs.Cursors.{behind}
 use Rattle.run_check.proofs.Placing.{line_place, next_get}
-use Rattle.run_check.specs.Pieces.{Adds, AreLinesBelow, IsBodyBelow, AreBodiesBelow}
+use Rattle.run_check.specs.Pieces.{Adds, is_poll_kind, AreLinesBelow, IsBodyBelow, AreBodiesBelow}
 
 abbrev pub AllBelow : ℕ → List Placed → Type 0
 AllBelow p list = AllByRecursion (λ x. x.place < p) list
@@ -85,8 +85,28 @@ pub no_record : (n : ℕ) (file : List Capsule) (all : List Response) (from : �
     → BodySoFar n file all from nothing_done from all
 no_record n file all from queue p = (λ a. a, λ a. a)
 
+-- a record of a poll tells a poll, whatever its number
+told_poll : (right : Bool) (queue : ℕ) → is_poll (poll_told right queue) ≡ true
+told_poll true queue = refl
+told_poll false queue = refl
+
+kind_told : (queue : ℕ) (file : List Capsule) (taken : ℕ) (kind : Kind) (number : ℕ)
+    → is_poll (call_told queue file taken kind number) ≡ is_poll_kind kind
+kind_told queue file taken kinds.Submit number = refl
+kind_told queue file taken kinds.Execute number = refl
+kind_told queue file taken kinds.Poll number = told_poll (number == taken) queue
+kind_told queue file taken kinds.Control number = refl
+
+final_told : (n queue : ℕ) (file : List Capsule) (at : Progress) (r : Response) (last : Bool)
+    → (is_poll_kind r.head.kind && is_final n at) ≡ last
+    → is_final_poll n at (entry_told queue file at.taken r).call ≡ last
+final_told n queue file at r last is =
+    ap (λ (b : Bool). b && is_final n at) (kind_told queue file at.taken r.head.kind r.head.number)
+    ∙ is
+
 record_step : (p n queue : ℕ) (file : List Capsule) (at : Progress) (r : Response)
-    (rest : List Response) (bound to : ℕ) (last : Bool) → is_final n at ≡ last
+    (rest : List Response) (bound to : ℕ) (last : Bool)
+    → is_final_poll n at (entry_told queue file at.taken r).call ≡ last
     → Adds last r.head.place bound to
     → ((bound ≤ p) × BodyLeft p n queue file at (r ∷ rest))
     ↔ ((to ≤ p)
@@ -101,12 +121,14 @@ record_step p n queue file at r rest bound to false is adds = rw is (
 
 pub record_more : (n : ℕ) (file : List Capsule) (all : List Response) (from : ℕ)
     (at next : Progress) (bound to : ℕ) (left rest : List Response) (r : Response) (last : Bool)
-    → left ≡ r ∷ rest → is_final n at ≡ last → Adds last r.head.place bound to
+    → left ≡ r ∷ rest → (is_poll_kind r.head.kind && is_final n at) ≡ last
+    → Adds last r.head.place bound to
     → ((queue : ℕ) → next ≡ after_entry at (entry_told queue file at.taken r))
     → BodySoFar n file all from at bound left → BodySoFar n file all from next to rest
 record_more n file all from at next bound to left rest r last is final adds goes so_far queue p =
     let h = so_far queue p in
-    let k = record_step p n queue file at r rest bound to last final adds in (
+    let k = record_step p n queue file at r rest bound to last
+        (final_told n queue file at r last final) adds in (
       λ a. subst (λ (q : Progress). (to ≤ p) × BodyLeft p n queue file q rest) (sym (goes queue))
           (k.0 (subst (λ (rs : List Response). (bound ≤ p) × BodyLeft p n queue file at rs) is (h.0 a))),
       λ a. h.1 (subst (λ (rs : List Response). (bound ≤ p) × BodyLeft p n queue file at rs) (sym is)

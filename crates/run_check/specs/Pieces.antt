@@ -1,6 +1,8 @@
 -- Pieces of a check, for the calls above them.
 use Rattle.std.specs.Prelude.{◌≡◌, ◌≤◌, ◌<◌, ◌↔◌, ℕ, Bool, true, false, List, map, Some, slice_get}
 use Rattle.std.specs.List.{flat_map, AllByRecursion}
+use Rattle.run_records.specs.declared.records.Kind.{Kind}
+use Rattle.run_records.specs.declared.records.Kind.TheVariants as kinds
 use Rattle.response_files.specs.Responses.{Response}
 use Rattle.response_files.specs.declared.responses.Record.{Record}
 use Rattle.journal_text.specs.declared.lines.JournalLine.{JournalLine}
@@ -39,6 +41,13 @@ IsBodyBelow p queue file rs = AllByRecursion (λ x. x.place < p)
 abbrev pub AreBodiesBelow : ℕ → ℕ → List (List Capsule) → List (List Response) → Type 0
 AreBodiesBelow p queue files responses = AllByRecursion (λ x. x.place < p)
     (bodies files (queues_told queue files responses))
+
+-- a record of a poll
+abbrev pub is_poll_kind : Kind → Bool
+is_poll_kind kinds.Submit = false
+is_poll_kind kinds.Execute = false
+is_poll_kind kinds.Poll = true
+is_poll_kind kinds.Control = false
 
 -- what a record adds to a bound: nothing where it is a final poll
 abbrev pub Adds : Bool → ℕ → ℕ → ℕ → Type 0

@@ -1,5 +1,5 @@
 // From which place on all that is no final poll stands below.
-ghost use Rattle.std.specs.Prelude.{◌≡◌, ◌<◌, ◌≤◌, ◌^◌, ◌↔◌, ◌+◌, ℕ, All, List, length, true, false};
+ghost use Rattle.std.specs.Prelude.{◌≡◌, ◌<◌, ◌≤◌, ◌^◌, ◌↔◌, ◌+◌, ◌&&◌, ℕ, All, List, length, true, false};
 ghost use Rattle.plan_files.specs.Capsules.{Capsule};
 ghost use Rattle.response_files.specs.Responses.{response_in};
 ghost use Rattle.run_transcript.specs.Turns.{after_entry};
@@ -7,13 +7,13 @@ ghost use Rattle.check_records.specs.Told.{entry_told, reply_told};
 ghost use Rattle.run_transcript.specs.Served.{is_final};
 ghost use Rattle.check_records.specs.Cursors.{capsules_of, progress_at};
 ghost use Rattle.check_records.specs.Seats.{all_responses, files_of, responses_of};
-ghost use Rattle.run_check.specs.Pieces.{Adds, AreBodiesBelow, AreLinesBelow, IsBodyBelow};
+ghost use Rattle.run_check.specs.Pieces.{Adds, AreBodiesBelow, AreLinesBelow, IsBodyBelow, is_poll_kind};
 
 use crate::places::place_of_line;
 use check_records::{Cursor, Responses, Stage};
 use journal_text::JournalLine;
 use response_files::Record;
-use run_records::{Answer, Head};
+use run_records::{Answer, Head, Kind};
 use run_transcript::CapsuleFile;
 use tree_target::Reply;
 
@@ -48,13 +48,23 @@ fn reply_told(head: &Head) -> Reply
     }
 }
 
-// Whether what a queue of so many capsules calls next is a final poll.
+// Whether a queue of so many capsules has nothing left to serve.
 fn is_final(cursor: &Cursor, capsules: usize) -> bool
     ensures { result ≡ is_final capsules (progress_at cursor.now) }
 {
     match cursor.stage {
         Stage::Ready | Stage::Ended => cursor.taken as usize == capsules,
         Stage::Holding | Stage::Through => false,
+    }
+}
+
+// Whether a record of this kind is a final poll of a queue of so many capsules.
+fn is_final_poll(kind: Kind, cursor: &Cursor, capsules: usize) -> bool
+    ensures { result ≡ (is_poll_kind kind && is_final capsules (progress_at cursor.now)) }
+{
+    match kind {
+        Kind::Poll => is_final(cursor, capsules),
+        Kind::Submit | Kind::Execute | Kind::Control => false,
     }
 }
 
@@ -73,14 +83,14 @@ fn behind_unless(is_final: bool, bound: u64, place: u32) -> u64
 // Goes on behind a record of a queue of so many capsules.
 fn behind_record(record: &Record, capsules: usize, cursor: &mut Cursor, bound: u64) -> u64
     requires { cursor.old.taken < 4294967295 }
-    ensures adds { Adds (is_final capsules (progress_at cursor.old)) record.now.head.place bound
-        result }
+    ensures adds { Adds (is_poll_kind record.now.head.kind
+        && is_final capsules (progress_at cursor.old)) record.now.head.place bound result }
     ensures progress { (bytes : List ℕ) (queue : ℕ) (file : List Capsule) →
         progress_at cursor.new ≡ after_entry (progress_at cursor.old)
         (entry_told queue file cursor.old.taken (response_in bytes record.now)) }
     ensures few { cursor.new.taken ≤ cursor.old.taken + 1 }
 {
-    let last = is_final(cursor, capsules);
+    let last = is_final_poll(record.head.kind, cursor, capsules);
     let to = behind_unless(last, bound, record.head.place);
     cursor.advance(record.head.kind, &reply_told(&record.head));
     to

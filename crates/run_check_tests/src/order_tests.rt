@@ -1,11 +1,11 @@
 // Records and lines that are no call of their caller's at their place, and drains that end too early.
 use crate::damages::Damage::{
-    Count, Gone, Kind, Line, Number, Place, Places, Says as LineSays, Swap, Twice,
+    Answer, Count, Gone, Kind, Line, Number, Place, Places, Says as LineSays, Swap, Twice,
 };
 use crate::damages::Part::{Admin, Io, Journal};
 use crate::damages::Shift::{Close, Move, Open, Swap as SwapPlaces};
 use crate::journal::Says;
-use crate::records::{CONTROL, EXECUTE, SUBMIT};
+use crate::records::{ANSWERED, CONTROL, EXECUTE, HELD, SUBMIT};
 use crate::rows::{Row, check_rows};
 use std::test::Fail;
 
@@ -87,6 +87,24 @@ const FRONTS_AND_POLLS: &[Row] = &[
             Count(33),
         ],
         b"not legal place 31 order\n",
+    ),
+    // A record of another kind where the last of three is due: the first stands before it.
+    (
+        &[Kind(Admin, 14, CONTROL), Answer(Admin, 14, ANSWERED)],
+        b"not legal place 28 order\n",
+    ),
+    (
+        &[Kind(Admin, 14, SUBMIT), Answer(Admin, 14, HELD)],
+        b"not legal place 28 order\n",
+    ),
+    (
+        &[Kind(Admin, 14, EXECUTE), Answer(Admin, 14, ANSWERED)],
+        b"not legal place 28 order\n",
+    ),
+    // And where the first is due.
+    (
+        &[Kind(Admin, 12, CONTROL)],
+        b"not legal place 28 order\n",
     ),
 ];
 

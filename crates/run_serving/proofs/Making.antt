@@ -12,7 +12,7 @@ use Rattle.tree_target.specs.Stands.{StandsFor, Does, Simulates}
 use Rattle.run_transcript.specs.Runs.{Placed, placed_from, calls_of}
 use Rattle.run_transcript.specs.Turns.{Progress, after_call, nothing_done, progress_of, next_call}
 use Rattle.run_transcript.specs.Printing.{number_of}
-use Rattle.run_transcript.specs.Served.{is_final}
+use Rattle.run_transcript.specs.Served.{is_final_poll}
 use Rattle.run_serving.specs.declared.output.Output.{Output}
 use Rattle.run_serving.specs.Prints.{Prints, Adds}
 use Rattle.run_serving.specs.Goes.{AreNext, Makes, progress_after}
@@ -23,7 +23,7 @@ use Rattle.run_serving.proofs.Placing.{after-append, IsLegal-append, placed_from
 pub record Calls (final : Bool) (t : Target) (queue : ℕ) (file : List Capsule) (p : Progress)
     (call : Call) (number : ℕ) : Type 0 where
   pub next : next_call t queue file p ≡ Some call
-  pub which : is_final (length file) p ≡ final
+  pub which : is_final_poll (length file) p call ≡ final
   pub number_is : number_of p.taken call ≡ number
 
 -- one call

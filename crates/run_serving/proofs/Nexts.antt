@@ -13,20 +13,13 @@ use Rattle.tree_target.specs.Model.{Bound, Binding, Target, Call, Submit, Execut
 use Rattle.tree_target.specs.Steps.{reply_of, target_after}
 use Rattle.tree_target.specs.Stands.{StandsFor, Does, AreBound, IsBoundAs}
 use Rattle.run_transcript.specs.Turns.{Stage, Ready, Holding, Through, Progress, after_submit, after_call, first_call, next_by, next_capsule, next_call, is_admin_at, is_admin_bound}
-use Rattle.run_transcript.specs.Served.{owes_nothing, is_final}
+use Rattle.run_transcript.specs.Served.{is_final}
 use Rattle.run_serving.specs.Goes.{IsSettled, IsAt, HasAll, HasEnded, EndsWithin, IsPolling, HasPolled}
 use Rattle.run_serving.proofs.Making.{Calls}
 
 -- ---- numbers
 same_number : (n : ℕ) → eqb n n ≡ true
 same_number n = grind arith
-
-less_differ : (a b : ℕ) → a < b → eqb a b ≡ false
-less_differ a b lt = grind arith
-
-and_false : (b : Bool) → (b && false) ≡ false
-and_false true = refl
-and_false false = refl
 
 -- ---- admin queues, by names and by positions
 bound_admin : (t : Configuration) (port : ℕ) (c : Option CodeBound) (m : Option Bound)
@@ -85,23 +78,6 @@ next_here t queue n file c p s at =
     settled_next t queue n file p s
     ∙ ap (λ (o : Option Capsule). next_capsule (is_admin_at t queue) queue n o) at
 
-within : (file : List Capsule) (n : ℕ) (c : Capsule) → slice_get file n ≡ Some c → n < length file
-within [] n c at = absurd cc
-within (x ∷ file) zero c at = omega arith
-within (x ∷ file) (suc n) c at = let lt : n < length file = within file n c at in omega arith
-
-unfinished : (t : Target) (queue n : ℕ) (file : List Capsule) (c : Capsule) (p : Progress)
-    → IsSettled t queue n p → slice_get file n ≡ Some c → is_final (length file) p ≡ false
-unfinished t queue n file c p s at =
-    ap (λ m. owes_nothing p.stage && eqb m (length file)) s.taken_is
-    ∙ ap (λ b. owes_nothing p.stage && b) (less_differ n (length file) (within file n c at))
-    ∙ and_false (owes_nothing p.stage)
-
--- where something is owed, no final poll comes next
-unready : (capsules : ℕ) (stage : Stage) (n : ℕ) → owes_nothing stage ≡ false
-    → (owes_nothing stage && eqb n capsules) ≡ false
-unready capsules stage n e = rw e refl
-
 -- the call of a fabrics command, and of another one
 control_first : (queue n : ℕ) (e : Sqe) (payload : List ℕ) → eqb e.opcode 127 ≡ true
     → first_call queue n (record { entry = e; payload = payload }) ≡ Control queue n e payload
@@ -120,7 +96,7 @@ calls_control t queue n file e payload p op at s =
     record {
       next = next_here t queue n file _ p s at
           ∙ ap (λ (x : Call). Some x) (control_first queue n e payload is);
-      which = unfinished t queue n file _ p s at;
+      which = refl;
       number_is = refl;
     }
 
@@ -131,7 +107,7 @@ pub calls_submit : (t : Target) (queue n : ℕ) (file : List Capsule) (e : Sqe) 
 calls_submit t queue n file e payload p op at s = record {
   next = next_here t queue n file _ p s at
       ∙ ap (λ (x : Call). Some x) (submit_first queue n e payload op);
-  which = unfinished t queue n file _ p s at;
+  which = refl;
   number_is = refl;
 }
 
@@ -149,7 +125,7 @@ pub calls_execute : (t : Target) (queue n : ℕ) (file : List Capsule) (e : Sqe)
 calls_execute t queue n file e payload p at is = record {
   next = ap (λ (q : Progress). next_call t queue file q) is
       ∙ holding_next (is_admin_at t queue) queue n file _ at;
-  which = ap (λ (q : Progress). is_final (length file) q) is;
+  which = refl;
   number_is = refl;
 }
 

@@ -15,7 +15,7 @@ use Rattle.tree_target.specs.Stands.{StandsFor, Simulates, room_of_call}
 use Rattle.run_transcript.specs.Runs.{Placed, placed_from, calls_of}
 use Rattle.run_transcript.specs.Turns.{Stage, Ready, Holding, Through, after_submit, Progress, nothing_done, after_entry, progress_of, is_admin_at, next_call}
 use Rattle.run_transcript.specs.Printing.{head_of}
-use Rattle.run_transcript.specs.Served.{front_len, is_final}
+use Rattle.run_transcript.specs.Served.{front_len, is_final_poll}
 use Rattle.run_serving.specs.declared.output.Output.{Output}
 use Rattle.run_serving.specs.Prints.{Prints}
 
@@ -28,7 +28,7 @@ progress_after p (e ∷ entries) = progress_after (after_entry p e) entries
 abbrev pub AreNext : Bool → ℕ → List Capsule → Progress → Target → List Entry → Type 0
 AreNext final queue file p t [] = Unit {0}
 AreNext final queue file p t (e ∷ entries) = (next_call t queue file p ≡ Some e.call)
-    × (is_final (length file) p ≡ final)
+    × (is_final_poll (length file) p e.call ≡ final)
     × AreNext final queue file (after_entry p e) (target_after t e.call) entries
 
 -- ---- where a queue stands between two capsules

@@ -3,6 +3,7 @@ use Rattle.std.specs.Prelude.{◌≡◌, ◌<◌, ℕ, ◌+◌, ◌==◌, ◌&&�
 use Rattle.std.specs.List.{AllByRecursion}
 use Rattle.sqe_cqe.specs.declared.codes.TheConstants.{FABRICS}
 use Rattle.plan_files.specs.Capsules.{Capsule}
+use Rattle.tree_target.specs.Model.{Call, Submit, Execute, Poll, Control, AnEdit, DrainEnd}
 use Rattle.run_transcript.specs.Runs.{Placed, Run, target_at, target_after_all}
 use Rattle.run_transcript.specs.Turns.{Stage, Ready, Holding, Through, Ended, Progress, nothing_done, after_entry, next_call, Editing, nothing_edited, editing_after, next_edit}
 
@@ -50,24 +51,37 @@ owes_nothing Holding = false
 owes_nothing Through = false
 owes_nothing Ended = true
 
--- What a queue calls next is a poll with nothing left to serve. One behind a poll without event,
--- which no run makes, is such a poll, too: a finished run that shows one is at fault there, and not at
--- the poll before it.
+-- A queue has taken so many capsules and has nothing left to serve. What it calls next, if anything,
+-- is a final poll.
 abbrev pub is_final : ℕ → Progress → Bool
 is_final capsules p = owes_nothing p.stage && (p.taken == capsules)
+
+abbrev pub is_poll : Call → Bool
+is_poll (Submit queue number e) = false
+is_poll (Execute queue number payload) = false
+is_poll (Poll queue) = true
+is_poll (Control queue number e payload) = false
+is_poll (AnEdit line e) = false
+is_poll (DrainEnd line sub nsid) = false
+
+-- A poll with nothing left to serve. One behind a poll without event, which no run makes, is such a
+-- poll, too: a finished run that shows one is at fault there, and not at the poll before it. A call of
+-- another kind is none, wherever it stands.
+abbrev pub is_final_poll : ℕ → Progress → Call → Bool
+is_final_poll capsules p call = is_poll call && is_final capsules p
 
 -- the final polls in what a queue did with a file of so many capsules
 abbrev pub finals_from : ℕ → Progress → List Placed → List Placed
 finals_from capsules p [] = []
 finals_from capsules p (x ∷ list) =
-    if is_final capsules p then x ∷ finals_from capsules (after_entry p x.entry)
+    if is_final_poll capsules p x.entry.call then x ∷ finals_from capsules (after_entry p x.entry)
     list else finals_from capsules (after_entry p x.entry) list
 
 -- all that it did before them
 abbrev pub body_from : ℕ → Progress → List Placed → List Placed
 body_from capsules p [] = []
 body_from capsules p (x ∷ list) =
-    if is_final capsules p then body_from capsules (after_entry p x.entry)
+    if is_final_poll capsules p x.entry.call then body_from capsules (after_entry p x.entry)
     list else x ∷ body_from capsules (after_entry p x.entry) list
 
 abbrev pub finals_of : List Capsule → List Placed → List Placed

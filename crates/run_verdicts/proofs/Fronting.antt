@@ -1,11 +1,12 @@
 -- Fronts and final polls.
-use Rattle.std.proofs.Common.{◌≡◌, ◌≤◌, ◌<◌, ℕ, zero, suc, ◌+◌, Bool, true, false, eqb, List, [], ◌∷◌, ◌++◌, length, take, drop, Some, slice_get, refl, sym, ap, subst, ◌∙◌, arith}
+use Rattle.std.proofs.Common.{◌≡◌, ◌≤◌, ◌<◌, ℕ, zero, suc, ◌+◌, ◌&&◌, Bool, true, false, eqb, List, [], ◌∷◌, ◌++◌, length, take, drop, Option, Some, None, slice_get, refl, sym, ap, subst, ◌∙◌, arith}
+use Rattle.std.proofs.lemmas.Bool.{eqb-true}
 use Rattle.std.specs.List.{AllByRecursion}
 use Rattle.plan_files.specs.Capsules.{Capsule}
-use Rattle.tree_target.specs.Model.{Call, Control, Target}
+use Rattle.tree_target.specs.Model.{Call, Control, Poll, Target}
 use Rattle.run_transcript.specs.Runs.{Placed, Run, target_at, target_after_all}
-use Rattle.run_transcript.specs.Turns.{Ready, Progress, nothing_done, after_entry, after_call, progress_from, progress_of, first_call, next_call}
-use Rattle.run_transcript.specs.Served.{ServesFile, front_len, fronts, AreFrom, is_final, finals_from, finals_of, finals, ArePlacedBefore}
+use Rattle.run_transcript.specs.Turns.{Stage, Ready, Holding, Through, Ended, Progress, nothing_done, after_entry, after_call, progress_from, progress_of, first_call, poll_where, next_capsule, next_by, is_admin_at, next_call}
+use Rattle.run_transcript.specs.Served.{ServesFile, front_len, fronts, AreFrom, owes_nothing, is_final, is_poll, is_final_poll, finals_from, finals_of, finals, ArePlacedBefore}
 use Rattle.run_verdicts.specs.Nexts.{fronts_before}
 use Rattle.run_verdicts.proofs.Laying.{not-some}
 use Rattle.run_verdicts.proofs.Serving.{progress-push, append-one}
@@ -153,31 +154,69 @@ pub all-right : (P : Placed → Type 0) (xs ys : List Placed) → AllByRecursion
 all-right P [] ys a = a
 all-right P (x ∷ xs) ys a = all-right P xs ys a.1
 
+beyond : (file : List Capsule) → slice_get file (length file) ≡ None
+beyond [] = refl
+beyond (c ∷ file) = beyond file
+
+polled-where : (admin : Bool) (queue : ℕ) (call : Call) → poll_where admin queue ≡ Some call
+    → is_poll call ≡ true
+polled-where true queue call h =
+    let is : Poll queue ≡ call = cc in
+    subst (λ (x : Call). is_poll x ≡ true) is refl
+polled-where false queue call h = absurd cc
+
+next-by-polls : (stage : Stage) (admin : Bool) (queue : ℕ) (file : List Capsule) (taken : ℕ) (call : Call)
+    → next_by stage admin queue file taken ≡ Some call → (owes_nothing stage && eqb taken (length file)) ≡ true
+    → is_poll call ≡ true
+next-by-polls Ready admin queue file taken call next final =
+    let all : taken ≡ length file = eqb-true taken (length file) final in
+    let none : slice_get file taken ≡ None = ap (λ m. slice_get file m) all ∙ beyond file in
+    polled-where admin queue call (sym (ap (λ (o : Option Capsule). next_capsule admin queue taken o) none) ∙ next)
+next-by-polls Holding admin queue file taken call next final = absurd cc
+next-by-polls Through admin queue file taken call next final = absurd cc
+next-by-polls Ended admin queue file taken call next final = absurd cc
+
+-- what is called with nothing left to serve is a final poll
+pub next-is-final-poll : (t : Target) (queue : ℕ) (file : List Capsule) (p : Progress) (call : Call)
+    → next_call t queue file p ≡ Some call → is_final (length file) p ≡ true
+    → is_final_poll (length file) p call ≡ true
+next-is-final-poll t queue file p call next final =
+    rw (next-by-polls p.stage (is_admin_at t queue) queue file p.taken call next final, final) refl
+
+both-true : (a b : Bool) → (a && b) ≡ true → b ≡ true
+both-true true b h = h
+both-true false b h = absurd cc
+
+-- and a final poll is called with nothing left to serve
+pub final-poll-is-final : (capsules : ℕ) (p : Progress) (call : Call) → is_final_poll capsules p call ≡ true
+    → is_final capsules p ≡ true
+final-poll-is-final capsules p call h = both-true (is_poll call) (is_final capsules p) h
+
 -- each final poll of a list has P
 abbrev pub AreFinals : (Placed → Type 0) → List Capsule → List Placed → Type 0
 AreFinals P file list = (front : List Placed) (e : Placed) (rest : List Placed) → list ≡ front ++ e ∷ rest
-    → is_final (length file) (progress_of front) ≡ true → P e
+    → is_final_poll (length file) (progress_of front) e.entry.call ≡ true → P e
 
 pub finals-all : (P : Placed → Type 0) (file : List Capsule) (list : List Placed) → AreFinals P file list
     → (front rest : List Placed) → list ≡ front ++ rest → AllByRecursion P (finals_from (length file) (progress_of front) rest)
 finals-all P file list each front [] is = tt
 finals-all P file list each front (e ∷ rest) is =
-    by-final (is_final (length file) (progress_of front)) refl
+    by-final (is_final_poll (length file) (progress_of front) e.entry.call) refl
     (subst (λ (p : Progress). AllByRecursion P (finals_from (length file) p rest)) (progress-push nothing_done front e)
     (finals-all P file list each (front ++ e ∷ []) rest (is ∙ sym (append-one front e rest)))) where
-      by-final : (b : Bool) → is_final (length file) (progress_of front) ≡ b
+      by-final : (b : Bool) → is_final_poll (length file) (progress_of front) e.entry.call ≡ b
           → AllByRecursion P (finals_from (length file) (after_entry (progress_of front) e.entry) rest)
           → AllByRecursion P (finals_from (length file) (progress_of front) (e ∷ rest))
       by-final true f more = rw f (each front e rest is f, more)
       by-final false f more = rw f more
 
 all-finals-from : (P : Placed → Type 0) (n : ℕ) (p : Progress) (front : List Placed) (e : Placed) (rest : List Placed)
-    → AllByRecursion P (finals_from n p (front ++ e ∷ rest)) → is_final n (progress_from p front) ≡ true → P e
+    → AllByRecursion P (finals_from n p (front ++ e ∷ rest)) → is_final_poll n (progress_from p front) e.entry.call ≡ true → P e
 all-finals-from P n p [] e rest a f =
     let here : AllByRecursion P (e ∷ finals_from n (after_entry p e.entry) rest) = rw f at a in here.0
-all-finals-from P n p (x ∷ front) e rest a f = by-final (is_final n p) refl (all-finals-from P n (after_entry p x.entry) front e rest) where
-  by-final : (b : Bool) → is_final n p ≡ b
-      → (AllByRecursion P (finals_from n (after_entry p x.entry) (front ++ e ∷ rest)) → is_final n (progress_from (after_entry p x.entry) front) ≡ true → P e)
+all-finals-from P n p (x ∷ front) e rest a f = by-final (is_final_poll n p x.entry.call) refl (all-finals-from P n (after_entry p x.entry) front e rest) where
+  by-final : (b : Bool) → is_final_poll n p x.entry.call ≡ b
+      → (AllByRecursion P (finals_from n (after_entry p x.entry) (front ++ e ∷ rest)) → is_final_poll n (progress_from (after_entry p x.entry) front) e.entry.call ≡ true → P e)
       → P e
   by-final true t more =
       let here : AllByRecursion P (x ∷ finals_from n (after_entry p x.entry) (front ++ e ∷ rest)) = rw t at a in more here.1 f

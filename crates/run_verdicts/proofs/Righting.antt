@@ -4,7 +4,7 @@ use Rattle.std.specs.List.Sorted.{IsPermutation}
 use Rattle.plan_files.specs.Capsules.{Capsule}
 use Rattle.tree_target.specs.Model.{Entry}
 use Rattle.run_transcript.specs.Runs.{Placed, Run, callers, IsRising, IsOrdered, IsLegalRun, placed_from, target_at, target_after_all}
-use Rattle.run_transcript.specs.Turns.{nothing_done}
+use Rattle.run_transcript.specs.Turns.{nothing_done, progress_of}
 use Rattle.run_transcript.specs.Served.{IsServed, ServesFile, bodies, finals}
 use Rattle.run_verdicts.specs.Places.{wanted}
 use Rattle.run_verdicts.specs.Nexts.{below, in_places, next_of, next_of_file, front_of, front_in, earlier, is_final_of, is_final_in, AreAllBelow}
@@ -12,7 +12,7 @@ use Rattle.run_verdicts.specs.Faults.{IsRight}
 use Rattle.run_verdicts.specs.Laws.{IsLaidOut, IsTranscript}
 use Rattle.run_verdicts.proofs.Laying.{all, stand, stand-in, one-of, comes-only, wanted-no, wanted-most, AreLow, low-below, low-last}
 use Rattle.run_verdicts.proofs.Serving.{append-one, Rises, is-rising, all-lists, serves-file, serves-queues, serves-script}
-use Rattle.run_verdicts.proofs.Fronting.{AreFull, full-front, all-fronts, each-finals, IsAllBelow, before-from}
+use Rattle.run_verdicts.proofs.Fronting.{AreFull, full-front, all-fronts, final-poll-is-final, each-finals, IsAllBelow, before-from}
 use Rattle.run_verdicts.proofs.History.{IsAt, is-at, length-history, get-history, IsLegalEntry, legal-from, get-within, merged, all-below}
 
 low-place : (n k s : ℕ) → 1 ≤ s → s ≡ wanted n k → k < n
@@ -98,7 +98,8 @@ served n run laid right =
           let low : length front < front_of run (suc q) = subst (λ (o : Option (List Capsule)). length front < front_in o) (sym hf) lt in
           omega (arith, p.turn low));
       last = before-from early (finals run.files run.queues) (each-finals (IsAllBelow early) run.files run.queues laid.queues (λ q file list hf hl front e rest is final.
-          (points n run right (suc q) list hl front e rest is).last (ap (λ (o : Option (List Capsule)). is_final_in o front) hf ∙ final)));
+          (points n run right (suc q) list hl front e rest is).last (ap (λ (o : Option (List Capsule)). is_final_in o front) hf
+          ∙ final-poll-is-final (length file) (progress_of front) e.entry.call final)));
     }
 
 -- ---- legal

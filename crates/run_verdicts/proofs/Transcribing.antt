@@ -3,7 +3,7 @@ use Rattle.std.proofs.Common.{◌≡◌, ◌<◌, ℕ, zero, suc, ◌+◌, true,
 use Rattle.plan_files.specs.Capsules.{Capsule}
 use Rattle.tree_target.specs.Model.{Entry}
 use Rattle.run_transcript.specs.Runs.{Placed, Run, callers, IsRising, target_at, target_after_all}
-use Rattle.run_transcript.specs.Turns.{nothing_done, nothing_edited}
+use Rattle.run_transcript.specs.Turns.{nothing_done, progress_of, nothing_edited}
 use Rattle.run_transcript.specs.Served.{ServesFile, ServesScript, front_len, bodies, finals}
 use Rattle.run_verdicts.specs.Places.{ArePlaces}
 use Rattle.run_verdicts.specs.Nexts.{told, places_of, below, next_of, next_of_file, front_of, front_in, earlier, is_final_of, is_final_in, AreAllBelow}
@@ -11,7 +11,7 @@ use Rattle.run_verdicts.specs.Faults.{Agrees, IsRight, AreDone}
 use Rattle.run_verdicts.specs.Laws.{IsLaidOut, IsTranscript}
 use Rattle.run_verdicts.proofs.Laying.{AreLow, AreHigh, below-is}
 use Rattle.run_verdicts.proofs.Serving.{one-list, cut-at, HasFile, has-file, served-next, served-done, scripted-next, scripted-done}
-use Rattle.run_verdicts.proofs.Fronting.{AreFull, full-front, front-turn, IsAllBelow, from-before, finals-each}
+use Rattle.run_verdicts.proofs.Fronting.{AreFull, full-front, front-turn, next-is-final-poll, IsAllBelow, from-before, finals-each}
 use Rattle.run_verdicts.proofs.History.{IsAt, is-at, get-history, IsLegalEntry, legal-at, are-places}
 
 -- what a caller's list says of an entry at its point
@@ -56,7 +56,9 @@ says n run x (suc q) list h front e rest is =
           omega (arith, front-turn 0 q run.files run.queues f.file list x.served.first (full n run x) f.is_file h front e rest is low);
       last = λ final.
           finals-each (IsAllBelow early) q run.files run.queues f.file list (from-before early (finals run.files run.queues) x.served.last) f.is_file h front e rest is
-          (ap (λ (o : Option (List Capsule)). is_final_in o front) (sym f.is_file) ∙ final);
+          (next-is-final-poll (target_at run e.place) (suc q) f.file (progress_of front) e.entry.call
+          (served-next run (suc q) f.file nothing_done front e rest s)
+          (ap (λ (o : Option (List Capsule)). is_final_in o front) (sym f.is_file) ∙ final));
     }
 
 done : (n : ℕ) (run : Run) → IsTranscript n run → AreDone run

@@ -4,7 +4,7 @@ use Rattle.run_check.proofs.bounds.behind_record.Goals as goal
 
 pub returns-clause-adds : goal.returns-clause-adds
 returns-clause-adds c =
-    rw (sym c.is_final-last.ensures) (adds_of c.is_final-last.result c.args.record.now.head.place
+    rw (sym c.is_final_poll-last.ensures) (adds_of c.is_final_poll-last.result c.args.record.now.head.place
     c.args.bound c.behind_unless-to.result c.behind_unless-to.ensures.last
     c.behind_unless-to.ensures.other)
 
