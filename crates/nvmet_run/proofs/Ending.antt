@@ -1,43 +1,29 @@
 -- How a run ends, put together.
-use Rattle.std.proofs.Common.{◌≡◌, ◌≢◌, ◌≤◌, ℕ, zero, suc, ◌+◌, Bool, List, [], ◌∷◌, ◌++◌, length, map, take, Option, Some, None, Result, Ok, Err, refl, sym, ap, subst, ◌∙◌, inl, inr, arith}
-use Rattle.std.specs.Prelude.{◌⊎◌}
+use Rattle.std.proofs.Common.{◌≡◌, ℕ, zero, suc, ◌+◌, List, [], ◌∷◌, ◌++◌, take, Option, Some, None, Result, Ok, Err, refl, sym, ap, subst, ◌∙◌, inl, inr, arith}
 use Rattle.std.proofs.lemmas.List.{append-nil}
 use Rattle.plan_files.specs.declared.items.Plan.{Plan}
 use Rattle.run_outside.specs.declared.outside.SinkFault.{SinkFault}
-use Rattle.run_outside.specs.Outside.{Rose, SinkTakes}
-use Rattle.run_outcomes.specs.declared.numbers.FileNo.{FileNo}
+use Rattle.run_outside.specs.Outside.{SinkTakes}
 use Rattle.run_outcomes.specs.declared.numbers.TheConstants.{PLAN, SINK}
 use Rattle.run_outcomes.specs.declared.faults.Fault.{Fault}
 use Rattle.run_outcomes.specs.declared.faults.Fault.TheVariants as fault
 use Rattle.run_outcomes.specs.Numbers.{file_of}
 use Rattle.run_outcomes.specs.Names.{to_write}
-use Rattle.run_outcomes.specs.Outsides.{Told, FilesView, SinkView, Outside, Kept, Took, Said, FailedCall, FailedPut}
+use Rattle.run_outcomes.specs.Outsides.{Told, FilesView, SinkView, Outside, Took, Said, FailedPut}
 use Rattle.run_outcomes.specs.Texts.{line_of}
 use Rattle.run_outcomes.specs.Written.{ToWrite, AreWritten, KeptBut, AllWritten, StopsAt, WriteFails}
 use Rattle.run_transcript.specs.Runs.{Run}
-use Rattle.run_transcript.specs.Printing.{responses, journal, summary}
 use Rattle.run_inputs.specs.Gives.{PlanBegins}
 use Rattle.run_inputs.specs.InputFiles.{input_files, name_of}
-use Rattle.run_inputs.specs.Known.{Known, begun}
+use Rattle.run_inputs.specs.Known.{begun}
 use Rattle.run_inputs.specs.Reading.{ReadsSo, Reading, ReadsFiles}
 use Rattle.run_inputs.specs.Views.{IsEarlier}
-use Rattle.nvmet_run.specs.Headline.{IsRunOf, IsWrittenOut, Ran, files_of_run}
-use Rattle.nvmet_run.specs.Made.{MakesPlan, Stops, WriteEnds, RunEnds}
+use Rattle.run_inputs.proofs.OneFile.{earlier_again, earlier_itself, kept_by}
+use Rattle.run_inputs.proofs.Walking.{walk_no_write}
+use Rattle.nvmet_run.specs.Headline.{Ran, files_of_run}
+use Rattle.nvmet_run.specs.Made.{MakesPlan, WriteEnds, RunEnds}
 use Rattle.run_prints.specs.Prints.{IsPrinted}
-use Rattle.nvmet_run.specs.Refusals.{Refusal, Unread, Unwritten, Unsaid, NoMemory}
-use Rattle.nvmet_run.proofs.Known.{walk_no_write}
-
--- ---- views
-earlier_same : (v : FilesView) → IsEarlier v v
-earlier_same v = record { told = refl; faults = refl_le v.faults } where
-  refl_le : (n : ℕ) → n ≤ n
-  refl_le n = omega arith
-
-earlier_both : (a b c : FilesView) → IsEarlier a b → IsEarlier b c → IsEarlier a c
-earlier_both a b c x y = record {
-  told = x.told ∙ y.told;
-  faults = omega (arith, x.faults, y.faults);
-}
+use Rattle.nvmet_run.specs.Refusals.{Refusal, Unwritten}
 
 -- ---- what is written
 files_are : (run : Run) (plan : Plan) (records : List (List ℕ)) (written text : List ℕ)
@@ -115,9 +101,6 @@ made_ends before mid after name plan records written text f e sink m ends = inr 
 )
 
 -- ---- after the line of the fault
-kept_by : (before after : FilesView) → IsEarlier before after → Kept before.told after.told
-kept_by before after e name = ap (λ (t : Told). t.holds name) (sym e.told)
-
 -- the plan was not read
 pub plan_unread : (before after : Outside) (name : List ℕ) (f : Fault)
     → Reading before.files after.files PLAN name PlanBegins (Err f)
@@ -302,7 +285,7 @@ ended before mid after name plan f p ends same said = elim ends [
         | inl memory ↦ no_memory before after name (name_of name plan (file_of f)) f memory e here
         | inr stopped ↦ files_unread before after name plan f p
             (subst (λ (v : FilesView). ReadsFiles before.files v (input_files plan) (begun plan) (Err f))
-            (sym same) (stopped before.files (earlier_same before.files))) e here
+            (sym same) (stopped before.files (earlier_itself before.files))) e here
       ]
   | inr made ↦ elim made.4 [
     | inl stops ↦
@@ -327,9 +310,9 @@ ends_since before mid after name plan f e sink ends = elim ends [
   | inl read ↦ inl (
     elim read.0 [
       | inl memory ↦ inl memory
-      | inr stopped ↦ inr (λ v earlier. stopped v (earlier_both v before.files mid.files earlier e))
+      | inr stopped ↦ inr (λ v earlier. stopped v (earlier_again v before.files mid.files earlier e))
     ],
-    earlier_both before.files mid.files after.files e read.1,
+    earlier_again before.files mid.files after.files e read.1,
     read.2 ∙ sink,
   )
   | inr made ↦ made_ends before mid after name plan made.0 made.1 made.2 f e sink

@@ -1,33 +1,19 @@
 -- What told files settle.
-use Rattle.std.proofs.Common.{◌≡◌, ◌≢◌, ◌≤◌, ℕ, ◌+◌, List, [], ◌∷◌, Option, Some, None, Result, Ok, Err, refl, sym, ap, subst, ◌∙◌, inl, inr, arith}
+use Rattle.std.proofs.Common.{◌≡◌, ℕ, List, Some, None, Result, Ok, Err, refl, ap, inl, inr}
 use Rattle.std.specs.Prelude.{◌⊎◌}
 use Rattle.run_outside.specs.Outside.{Rose}
-use Rattle.run_outcomes.specs.declared.numbers.TheConstants.{PLAN}
 use Rattle.run_outcomes.specs.declared.faults.Fault.{Fault}
 use Rattle.run_outcomes.specs.declared.faults.Fault.TheVariants as fault
-use Rattle.run_outcomes.specs.Outsides.{Told, FilesView, Outside}
-use Rattle.run_inputs.specs.Gives.{PlanBegins}
-use Rattle.run_inputs.specs.InputFiles.{input_files}
+use Rattle.run_outcomes.specs.Outsides.{FilesView, Outside}
 use Rattle.run_inputs.specs.Known.{Known, begun}
 use Rattle.run_inputs.specs.Ready.{IsRead, ToldFilesSettle}
-use Rattle.run_inputs.specs.Reading.{WasRead, AllWasRead, Reading, ReadsAll, FilesTell}
-use Rattle.run_inputs.specs.Walk.{Then, Walk, WalkAll}
+use Rattle.run_inputs.specs.Reading.{ReadsAll, FilesTell}
 use Rattle.run_transcript.specs.Runs.{Run}
 use Rattle.nvmet_run.specs.Codes.{status_of}
 use Rattle.nvmet_run.specs.declared.status.Status.{Status}
 use Rattle.nvmet_run.specs.declared.status.Status.TheVariants as status
-use Rattle.nvmet_run.specs.Headline.{Ran}
-use Rattle.nvmet_run.specs.Refusals.{Refusal, StopsBy, Unread, Unwritten, Unsaid}
-use Rattle.nvmet_run.proofs.Known.{reads_walk}
-
-reads_all : (before after : FilesView) (name : List ℕ) (s : Known)
-    → AllWasRead before.told name s → ReadsAll before after name (Ok s)
-reads_all before after name s w = by w.0 w.1 w.2 where
-  by : (u : Result Known Fault) → WasRead before.told PLAN name PlanBegins u
-      → Then u (λ v. Walk (WasRead before.told) (input_files v.plan) v) (Ok s)
-      → ReadsAll before after name (Ok s)
-  by (Ok v) says rest = (Ok v, says, reads_walk before after (input_files v.plan) v s rest)
-  by (Err f) says rest = absurd cc
+use Rattle.nvmet_run.specs.Refusals.{Refusal, StopsBy}
+use Rattle.run_inputs.proofs.Walking.{reads_all}
 
 stops_all : (before after : FilesView) (name : List ℕ) (plan : _) (f : Fault)
     → StopsBy before after name plan f → ReadsAll before after name (Err f)

@@ -8,8 +8,7 @@ ghost use Rattle.run_inputs.specs.Reading.{FilesTell, ReadsSo};
 ghost use Rattle.run_inputs.specs.Views.{IsEarlier, seen};
 ghost use Rattle.run_outcomes.specs.declared.faults.Fault.{Fault};
 ghost use Rattle.run_outcomes.specs.Names.{to_write};
-ghost use Rattle.run_outcomes.specs.Outsides.{told_by, files_view, sink_view, outside, Said, Took};
-ghost use Rattle.run_outcomes.specs.Texts.{line_of};
+ghost use Rattle.run_outcomes.specs.Outsides.{told_by, files_view, outside, Took};
 ghost use Rattle.run_outcomes.specs.Written.{AllWritten};
 ghost use Rattle.run_verdicts.specs.declared.verdict.Field.{Field};
 ghost use Rattle.nvmet_run.specs.Codes.{status_of};
@@ -21,7 +20,7 @@ use crate::status::Status;
 use crate::writing::write_files;
 use plan_files::{Files, Gate, Plan, Sink};
 use run_inputs::{file_name, read_plan_file, read_plan_inputs, told_files_settle};
-use run_outcomes::{Fault, plans_have_apart_names, put_line, put_text};
+use run_outcomes::{Fault, plans_have_apart_names, put_text, report_fault};
 use run_prints::{Printed, serve_inputs};
 use std::alloc::Global;
 use std::sync::Wait;
@@ -119,15 +118,6 @@ fn run_read<F: Files, K: Sink>(
         },
         Err(fault) => Err(fault),
     }
-}
-
-// Puts the line of a fault in the file of this name.
-fn report_fault<K: Sink>(file: &[u8], fault: &Fault, out: &mut K)
-    ensures { Said
-        (sink_view (K.taken out.old) (K.faults out.old))
-        (sink_view (K.taken out.new) (K.faults out.new)) (line_of file.now fault.now) }
-{
-    let _ = put_line(file, fault, out);
 }
 
 // The run of a plan, with the line of its fault.

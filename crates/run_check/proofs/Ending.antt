@@ -8,17 +8,17 @@ use Rattle.run_outcomes.specs.declared.numbers.TheConstants.{PLAN}
 use Rattle.run_outcomes.specs.declared.faults.Fault.{Fault}
 use Rattle.run_outcomes.specs.declared.faults.Fault.TheVariants as fault
 use Rattle.run_outcomes.specs.Numbers.{file_of}
-use Rattle.run_outcomes.specs.Outsides.{Told, FilesView, SinkView, Outside, Kept, Took, Said, FailedPut}
+use Rattle.run_outcomes.specs.Outsides.{Told, FilesView, SinkView, Outside, Took, Said, FailedPut}
 use Rattle.run_outcomes.specs.Texts.{line_of}
-use Rattle.run_inputs.specs.Gives.{PlanBegins, FileGives}
-use Rattle.run_inputs.specs.InputFiles.{InputFile, input_files, name_of}
+use Rattle.run_inputs.specs.Gives.{PlanBegins}
+use Rattle.run_inputs.specs.InputFiles.{input_files, name_of}
 use Rattle.run_inputs.specs.Known.{Known, begun}
 use Rattle.run_inputs.specs.Reading as inputs
 use Rattle.run_inputs.specs.Stages as stages
-use Rattle.run_inputs.specs.Walk as walk
 use Rattle.run_inputs.specs.Ready.{ToldFilesSettle}
 use Rattle.run_inputs.specs.Views.{IsEarlier}
-use Rattle.run_inputs.proofs.OneFile.{earlier_again}
+use Rattle.run_inputs.proofs.OneFile.{earlier_again, kept_by}
+use Rattle.run_inputs.proofs.Walking.{reads_all, walk_no_write}
 use Rattle.run_verdicts.specs.declared.verdict.Field.{Field}
 use Rattle.run_verdicts.specs.declared.verdict.Verdict.{Verdict}
 use Rattle.run_verdicts.specs.declared.verdict.Verdict.TheVariants as verdict
@@ -41,20 +41,6 @@ use Rattle.run_check.proofs.Settling.{both_settle}
 use Rattle.run_check.proofs.Walking.{walk_was, was_walk}
 
 -- ---- a write is no reason why reading ends
-walk_no_write : (before after : FilesView) (files : List InputFile) (s : Known) (n : FileNo)
-    → walk.Walk (inputs.Reading before after) files s (Err (fault.WriteFault n)) → ⊥
-walk_no_write before after [] s n w = absurd cc
-walk_no_write before after (file ∷ files) s n w =
-    by w.0 w.1 w.2 (λ v rest. walk_no_write before after files v n rest) where
-      by : (u : Result Known Fault)
-          → inputs.Reading before after file.number file.name (FileGives file s) u
-          → walk.Then u (walk.Walk (inputs.Reading before after) files) (Err (fault.WriteFault n))
-          → ((v : Known) → walk.Walk (inputs.Reading before after) files v (Err (fault.WriteFault n))
-          → ⊥) → ⊥
-      by (Ok v) says rest more = more v rest
-      by (Err f) says rest more = subst (λ (x : Result Known Fault). inputs.Reading before after
-          file.number file.name (FileGives file s) x) (sym rest) says
-
 records_no_write : (before after : FilesView) (files : List RecordFile) (s : Finished) (n : FileNo)
     → Walk (Reading before after) files s (Err (fault.WriteFault n)) → ⊥
 records_no_write before after [] s n w = absurd cc
@@ -97,9 +83,6 @@ behind before now after plan f e h = elim h [
 ]
 
 -- ---- after the line of the fault
-kept_by : (before after : FilesView) → IsEarlier before after → Kept before.told after.told
-kept_by before after e name = ap (λ (t : Told). t.holds name) (sym e.told)
-
 no_memory : (before after : Outside) (name named : List ℕ) (f : Fault) → f ≡ fault.Memory
     → IsEarlier before.files after.files → Said before.sink after.sink (line_of named f)
     → Refusal before after name f
@@ -286,35 +269,11 @@ fault_read before after now sink name plan f later stops said e same p =
     (sym same) said)
 
 -- ---- what told files settle
-reads_walk : (before after : FilesView) (files : List InputFile) (s t : Known)
-    → walk.Walk (inputs.WasRead before.told) files s (Ok t)
-    → walk.Walk (inputs.Reading before after) files s (Ok t)
-reads_walk before after [] s t w = w
-reads_walk before after (file ∷ files) s t w =
-    by w.0 w.1 w.2 (λ v rest. reads_walk before after files v t rest) where
-      by : (u : Result Known Fault)
-          → inputs.WasRead before.told file.number file.name (FileGives file s) u
-          → walk.Then u (walk.Walk (inputs.WasRead before.told) files) (Ok t)
-          → ((v : Known) → walk.Walk (inputs.WasRead before.told) files v (Ok t)
-          → walk.Walk (inputs.Reading before after) files v (Ok t))
-          → walk.Walk (inputs.Reading before after) (file ∷ files) s (Ok t)
-      by (Ok v) says rest more = (Ok v, says, more v rest)
-      by (Err f) says rest more = absurd cc
-
-all_reads : (before after : FilesView) (name : List ℕ) (s : Known)
-    → inputs.AllWasRead before.told name s → inputs.ReadsAll before after name (Ok s)
-all_reads before after name s w = by w.0 w.1 w.2 where
-  by : (u : Result Known Fault) → inputs.WasRead before.told PLAN name PlanBegins u
-      → walk.Then u (λ v. walk.Walk (inputs.WasRead before.told) (input_files v.plan) v) (Ok s)
-      → inputs.ReadsAll before after name (Ok s)
-  by (Ok v) says rest = (Ok v, says, reads_walk before after (input_files v.plan) v s rest)
-  by (Err f) says rest = absurd cc
-
 both_read : (before after : FilesView) (name : List ℕ) (f : Finished)
     → WasAllRead before.told name f → ReadsBoth before after name (Ok f)
 both_read before after name f h = (
   Ok h.known,
-  all_reads before after name h.known h.inputs,
+  reads_all before after name h.known h.inputs,
   was_walk before after (record_files h.known.plan h.known.files) (unread h.known) f h.records,
 )
 

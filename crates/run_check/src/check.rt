@@ -12,8 +12,7 @@ ghost use Rattle.run_inputs.specs.Views.{IsEarlier, seen};
 ghost use Rattle.link_rules.specs.Table.{is_fitting};
 ghost use Rattle.check_records.specs.Seats.{AreRead};
 ghost use Rattle.run_outcomes.specs.declared.faults.Fault.{Fault};
-ghost use Rattle.run_outcomes.specs.Outsides.{Outside, told_by, sink_view, outside, Said};
-ghost use Rattle.run_outcomes.specs.Texts.{line_of};
+ghost use Rattle.run_outcomes.specs.Outsides.{Outside, told_by, sink_view, outside};
 ghost use Rattle.run_verdicts.specs.Faults.{IsFault, IsRight};
 ghost use Rattle.run_verdicts.specs.Laws.{RightIsTranscript};
 ghost use Rattle.run_verdicts.specs.declared.verdict.Field.{Field};
@@ -30,7 +29,7 @@ use crate::records::{Records, read_records};
 use crate::report::{put_legal, put_not_legal};
 use plan_files::{Files, Plan, Sink};
 use run_inputs::{PlanInputs, file_name, read_plan_file, read_plan_inputs, told_files_settle};
-use run_outcomes::{Fault, SINK, put_line};
+use run_outcomes::{Fault, SINK, report_fault};
 use run_verdicts::{
     Field, Verdict, right_runs_are_transcripts, right_runs_have_no_fault, runs_have_one_fault,
 };
@@ -115,15 +114,6 @@ fn put_verdict<K: Sink>(verdict: Verdict, out: &mut K) -> Result<(), CheckFault>
             Err(CheckFault::NotLegal { place, field })
         }
     }
-}
-
-// Puts the line of a fault in the file of this name.
-fn report_fault<K: Sink>(file: &[u8], fault: &Fault, out: &mut K)
-    ensures { Said
-        (sink_view (K.taken out.old) (K.faults out.old))
-        (sink_view (K.taken out.new) (K.faults out.new)) (line_of file.now fault.now) }
-{
-    let _ = put_line(file, fault, out);
 }
 
 // The check of a plan that was read.

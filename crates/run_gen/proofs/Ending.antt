@@ -1,5 +1,5 @@
 -- How generating a plan ends, put together.
-use Rattle.std.proofs.Common.{◌≡◌, ℕ, zero, suc, List, [], ◌∷◌, ◌++◌, map, take, Option, Some, None, Result, Ok, Err, refl, sym, ap, subst, ◌∙◌, inl, inr, arith}
+use Rattle.std.proofs.Common.{◌≡◌, ℕ, zero, suc, List, [], ◌++◌, map, take, Option, Some, None, Result, Ok, Err, refl, sym, ap, subst, ◌∙◌, inl, inr, arith}
 use Rattle.std.specs.Prelude.{◌⊎◌}
 use Rattle.std.proofs.lemmas.List.{append-nil}
 use Rattle.run_outside.specs.declared.outside.SinkFault.{SinkFault}
@@ -13,10 +13,11 @@ use Rattle.run_outcomes.specs.Outsides.{Told, FilesView, SinkView, Outside, Kept
 use Rattle.run_outcomes.specs.Texts.{line_of}
 use Rattle.run_outcomes.specs.Written.{ToWrite, AllWritten, StopsAt}
 use Rattle.run_inputs.specs.Reading.{ReadsAll, Reading}
-use Rattle.run_inputs.specs.Gives.{PlanBegins, FileGives}
-use Rattle.run_inputs.specs.InputFiles.{InputFile, input_files}
+use Rattle.run_inputs.specs.Gives.{PlanBegins}
+use Rattle.run_inputs.specs.InputFiles.{input_files}
 use Rattle.run_inputs.specs.Known.{Known}
 use Rattle.run_inputs.specs.Walk.{Then, Walk}
+use Rattle.run_inputs.proofs.Walking.{walk_no_write}
 use Rattle.gen_files.specs.Seeds.{Base}
 use Rattle.gen_files.specs.Contents.{content_of, contents, plan_name}
 use Rattle.gen_files.specs.declared.made.MadeFile.{MadeFile}
@@ -93,18 +94,6 @@ generates_by b files before after taken taken' text e m same all put =
 -- ---- after the line of the fault
 
 -- reading ends by no fault of a write
-walk_no_write : (before after : FilesView) (files : List InputFile) (s : Known) (n : FileNo)
-    → Walk (Reading before after) files s (Err (fault.WriteFault n)) → ⊥
-walk_no_write before after [] s n w = absurd cc
-walk_no_write before after (file ∷ files) s n w =
-    by w.0 w.1 w.2 (λ v rest. walk_no_write before after files v n rest) where
-      by : (u : Result Known Fault) → Reading before after file.number file.name (FileGives file s) u
-          → Then u (Walk (Reading before after) files) (Err (fault.WriteFault n))
-          → ((v : Known) → Walk (Reading before after) files v (Err (fault.WriteFault n)) → ⊥) → ⊥
-      by (Ok v) says rest more = more v rest
-      by (Err f) says rest more = subst (λ (x : Result Known Fault). Reading before after file.number
-          file.name (FileGives file s) x) (sym rest) says
-
 reads_no_write : (before after : FilesView) (name : List ℕ) (n : FileNo)
     → ReadsAll before after name (Err (fault.WriteFault n)) → ⊥
 reads_no_write before after name n w = by w.0 w.1 w.2 where

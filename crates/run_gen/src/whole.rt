@@ -3,8 +3,7 @@ ghost use Rattle.std.specs.Prelude.{◌≡◌, IsUtf8, IfOk, IfErr, OnOk, map, s
 ghost use Rattle.std.specs.List.{AllByRecursion};
 ghost use Rattle.gen_files.specs.Contents.{content_of, contents};
 ghost use Rattle.gen_files.specs.declared.made.MadeFile.{MadeFile};
-ghost use Rattle.run_outcomes.specs.Outsides.{told_by, outside, sink_view, Said, Took};
-ghost use Rattle.run_outcomes.specs.Texts.{line_of};
+ghost use Rattle.run_outcomes.specs.Outsides.{told_by, outside, Took};
 ghost use Rattle.run_outcomes.specs.Written.{AllWritten, AreApart};
 ghost use Rattle.run_gen.specs.Generated.{Generated};
 ghost use Rattle.run_gen.specs.Refusals.{Ends, Refusal, SummedInMemory, Unmade, WriteEnds};
@@ -14,7 +13,7 @@ use crate::summing::sum_run;
 use crate::writing::{in_memory, name_or, write_made};
 use gen_files::{MadeFile, Seed, make_files, plan_name};
 use plan_files::{Files, Sink};
-use run_outcomes::{Fault, put_line, put_text};
+use run_outcomes::{Fault, put_text, report_fault};
 use std::alloc::Global;
 
 // The summary of the run of these files, by one caller.
@@ -91,15 +90,6 @@ fn generate_made<F: Files, K: Sink>(
         },
         Err(fault) => Err(fault),
     }
-}
-
-// Puts the line of a fault in the file of this name.
-fn report_fault<K: Sink>(file: &[u8], fault: &Fault, out: &mut K)
-    ensures { Said
-        (sink_view (K.taken out.old) (K.faults out.old))
-        (sink_view (K.taken out.new) (K.faults out.new)) (line_of file.now fault.now) }
-{
-    let _ = put_line(file, fault, out);
 }
 
 /// Generates a plan: writes its seven files, in their order, and puts the summary of their run by

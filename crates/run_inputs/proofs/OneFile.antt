@@ -1,5 +1,5 @@
 -- What came of reading one file.
-use Rattle.std.proofs.Common.{◌≡◌, ◌≤◌, ◌<◌, ℕ, ◌+◌, false, List, length, Result, Ok, Err, refl, sym, subst, ◌∙◌, arith}
+use Rattle.std.proofs.Common.{◌≡◌, ◌≤◌, ◌<◌, ℕ, ◌+◌, false, List, length, Result, Ok, Err, refl, sym, ap, subst, ◌∙◌, arith}
 use Rattle.std.proofs.lemmas.Bool.{le-ltb, lt-ltb}
 use Rattle.plan_files.specs.declared.limits.What.{What}
 use Rattle.plan_files.specs.declared.limits.What.TheVariants.{Bytes}
@@ -7,7 +7,7 @@ use Rattle.plan_files.specs.Binding.{◌>>=◌}
 use Rattle.run_outcomes.specs.declared.numbers.FileNo.{FileNo}
 use Rattle.run_outcomes.specs.declared.faults.Fault.{Fault}
 use Rattle.run_outcomes.specs.declared.faults.Fault.TheVariants as fault
-use Rattle.run_outcomes.specs.Outsides.{Told, HoldsOf, FilesView, FailedCall}
+use Rattle.run_outcomes.specs.Outsides.{Told, HoldsOf, FilesView, Kept, FailedCall}
 use Rattle.run_inputs.specs.Contents.{content_of}
 use Rattle.run_inputs.specs.Known.{Known}
 use Rattle.run_inputs.specs.Reading.{ReadsSo, Reading}
@@ -28,6 +28,10 @@ earlier_again a b c e f = record {
 
 pub earlier_itself : (a : FilesView) → IsEarlier a a
 earlier_itself a = record { told = refl; faults = omega arith }
+
+-- reading alone leaves what names hold
+pub kept_by : (before after : FilesView) → IsEarlier before after → Kept before.told after.told
+kept_by before after e name = ap (λ (t : Told). t.holds name) (sym e.told)
 
 reads_then : (before now : FilesView) (name : List ℕ)
     (gives : List ℕ → Result Known Fault → Type 0) (r : Result Known Fault)

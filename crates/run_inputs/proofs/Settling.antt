@@ -50,11 +50,11 @@ kind_same TheCapsules file s bytes q r h k = h ∙ sym k
 
 -- ---- one file
 
-abbrev IsSettled : Result Known Fault → Result Known Fault → Type 0
+abbrev pub IsSettled : Result Known Fault → Result Known Fault → Type 0
 IsSettled r told = (r ≡ told) ⊎ (r ≡ Err fault.Memory)
 
 -- bytes give one thing
-abbrev IsSingle : (List ℕ → Result Known Fault → Type 0) → Type 0
+abbrev pub IsSingle : (List ℕ → Result Known Fault → Type 0) → Type 0
 IsSingle gives = (bytes : List ℕ) (q r : Result Known Fault) → gives bytes q → gives bytes r → q ≡ r
 
 same_bytes : (told : Told) (name a b : List ℕ) → told.holds name ≡ Some a → HoldsOf told name b
@@ -68,7 +68,7 @@ read_settles told file name gives q r single h t =
     let is : t.0 ≡ h.bytes = same_bytes told name t.0 h.bytes t.1 h.held in
     single h.bytes q r h.is (subst (λ (b : List ℕ). gives b r) is t.2)
 
-one_settles : (before after : FilesView) (file : FileNo) (name : List ℕ)
+pub one_settles : (before after : FilesView) (file : FileNo) (name : List ℕ)
     (gives : List ℕ → Result Known Fault → Type 0) (q r : Result Known Fault)
     → IsSingle gives → (Rose before.faults after.faults → ⊥)
     → Reading before after file name gives q → Tells before.told file name gives r
@@ -89,7 +89,7 @@ one_settles before after file name gives (Err fault.Memory) r single quiet h t =
 -- ---- all files
 
 -- after a file that is settled, where the rest settles too
-then_settles : (first second : Known → Result Known Fault → Type 0) (u v q r : Result Known Fault)
+pub then_settles : (first second : Known → Result Known Fault → Type 0) (u v q r : Result Known Fault)
     → ((s : Known) → first s q → second s r → IsSettled q r)
     → IsSettled u v → Then u first q → Then v second r → IsSettled q r
 then_settles first second u v q r rest is h k = elim is [
@@ -100,7 +100,7 @@ then_settles first second u v q r rest is h k = elim is [
   by_first (Ok s) k h = rest s h k
   by_first (Err f) k h = inl (h ∙ sym k)
 
-walk_settles : (before after : FilesView) (files : List InputFile) (s : Known)
+pub walk_settles : (before after : FilesView) (files : List InputFile) (s : Known)
     (q r : Result Known Fault) → (Rose before.faults after.faults → ⊥)
     → Walk (Reading before after) files s q → Walk (Tells before.told) files s r → IsSettled q r
 walk_settles before after [] s q r quiet h k = inl (h ∙ sym k)
@@ -110,7 +110,7 @@ walk_settles before after (file ∷ files) s q r quiet h k =
     (one_settles before after file.number file.name (FileGives file s) h.0 k.0
     (kind_same file.kind file.number s) quiet h.1 k.1) h.2 k.2
 
-plan_same : IsSingle PlanBegins
+pub plan_same : IsSingle PlanBegins
 plan_same bytes q r h k = h ∙ sym k
 
 pub all_settle : (before after : FilesView) (name : List ℕ) (q r : Result Known Fault)

@@ -1,16 +1,19 @@
 -- Files read one after another: fronts, and what comes after them.
-use Rattle.std.proofs.Common.{◌≡◌, ℕ, List, [], ◌∷◌, ◌++◌, map, Result, Ok, Err, refl, subst, inl, inr}
+use Rattle.std.proofs.Common.{◌≡◌, ℕ, List, [], ◌∷◌, ◌++◌, map, Result, Ok, Err, refl, sym, subst, inl, inr}
 use Rattle.plan_files.specs.declared.items.Plan.{Plan}
 use Rattle.run_transcript.specs.declared.scripts.ScriptEdit.{ScriptEdit}
 use Rattle.run_transcript.specs.declared.capsule_files.CapsuleFile.{CapsuleFile}
 use Rattle.tree_target.specs.Kept.{Kept}
 use Rattle.tree_target.specs.Model.{Target}
+use Rattle.run_outcomes.specs.declared.numbers.FileNo.{FileNo}
+use Rattle.run_outcomes.specs.declared.numbers.TheConstants.{PLAN}
 use Rattle.run_outcomes.specs.declared.faults.Fault.{Fault}
+use Rattle.run_outcomes.specs.declared.faults.Fault.TheVariants as fault
 use Rattle.run_outcomes.specs.Outsides.{FilesView}
-use Rattle.run_inputs.specs.Gives.{FileGives}
+use Rattle.run_inputs.specs.Gives.{PlanBegins, FileGives}
 use Rattle.run_inputs.specs.InputFiles.{InputFile, configuration_files, script_files, capsule_files, input_files}
 use Rattle.run_inputs.specs.Known.{Known, begun}
-use Rattle.run_inputs.specs.Reading.{WasRead, Reading, RestWasRead}
+use Rattle.run_inputs.specs.Reading.{WasRead, AllWasRead, Reading, ReadsAll, RestWasRead}
 use Rattle.run_inputs.specs.Ready.{Holds, capsules_of_file}
 use Rattle.run_inputs.specs.Stages.{ReadOn, StoppedIn, StartsIn, QueuesRead, with_files}
 use Rattle.run_inputs.specs.Views.{IsEarlier}
@@ -177,3 +180,40 @@ plan_reads_all now mid last plan target count edits files later then start scrip
           (script (with_start plan start.start count))
           (queues.read (with_edits plan start.start count edits)));
     }
+
+-- ---- a walk in which all was read
+-- is one that ends well
+pub reads_walk : (before after : FilesView) (files : List InputFile) (s t : Known)
+    → Walk (WasRead before.told) files s (Ok t) → Walk (Reading before after) files s (Ok t)
+reads_walk before after [] s t w = w
+reads_walk before after (file ∷ files) s t w =
+    by w.0 w.1 w.2 (λ v rest. reads_walk before after files v t rest) where
+      by : (u : Result Known Fault) → WasRead before.told file.number file.name (FileGives file s) u
+          → Then u (Walk (WasRead before.told) files) (Ok t)
+          → ((v : Known) → Walk (WasRead before.told) files v (Ok t)
+          → Walk (Reading before after) files v (Ok t))
+          → Walk (Reading before after) (file ∷ files) s (Ok t)
+      by (Ok v) says rest more = (Ok v, says, more v rest)
+      by (Err f) says rest more = absurd cc
+
+pub reads_all : (before after : FilesView) (name : List ℕ) (s : Known)
+    → AllWasRead before.told name s → ReadsAll before after name (Ok s)
+reads_all before after name s w = by w.0 w.1 w.2 where
+  by : (u : Result Known Fault) → WasRead before.told PLAN name PlanBegins u
+      → Then u (λ v. Walk (WasRead before.told) (input_files v.plan) v) (Ok s)
+      → ReadsAll before after name (Ok s)
+  by (Ok v) says rest = (Ok v, says, reads_walk before after (input_files v.plan) v s rest)
+  by (Err f) says rest = absurd cc
+
+-- a write is no reason why reading ends
+pub walk_no_write : (before after : FilesView) (files : List InputFile) (s : Known) (n : FileNo)
+    → Walk (Reading before after) files s (Err (fault.WriteFault n)) → ⊥
+walk_no_write before after [] s n w = absurd cc
+walk_no_write before after (file ∷ files) s n w =
+    by w.0 w.1 w.2 (λ v rest. walk_no_write before after files v n rest) where
+      by : (u : Result Known Fault) → Reading before after file.number file.name (FileGives file s) u
+          → Then u (Walk (Reading before after) files) (Err (fault.WriteFault n))
+          → ((v : Known) → Walk (Reading before after) files v (Err (fault.WriteFault n)) → ⊥) → ⊥
+      by (Ok v) says rest more = more v rest
+      by (Err f) says rest more = subst (λ (x : Result Known Fault). Reading before after file.number
+          file.name (FileGives file s) x) (sym rest) says

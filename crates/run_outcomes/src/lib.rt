@@ -18,5 +18,5 @@ pub use faults::{At, Fault};
 pub use law::plans_have_apart_names;
 pub use numbers::{CONFIG, FileNo, JOURNAL, PLAN, SCRIPT, SINK, capsules_number, responses_number};
 pub use putting::put_text;
-pub use report::{put_line, put_usage};
+pub use report::{put_line, put_usage, report_fault};
 pub use writing::write_file;

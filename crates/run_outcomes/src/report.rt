@@ -2,6 +2,7 @@
 ghost use Rattle.std.specs.Prelude.{◌++◌, ◌∷◌, [], codes};
 ghost use Rattle.std.specs.Fmt.{decimal};
 ghost use Rattle.run_outside.specs.Outside.{SinkTakes, SinkCause};
+ghost use Rattle.run_outcomes.specs.Outsides.{Said, sink_view};
 ghost use Rattle.run_outcomes.specs.Texts.{config_line, limit_line, line_of, malformed_line, usage_line};
 
 use crate::faults::{At, Fault};
@@ -164,4 +165,13 @@ pub fn put_line<K: Sink>(file: &[u8], fault: &Fault, out: &mut K) -> Result<(), 
         } => put_limit(file, *what, *count, out),
         Fault::ConfigRefused { edit, errno } => put_config(*edit, *errno, out),
     }
+}
+
+/// Puts the line of a fault in the file of this name, or a front of it where the sink fails: the
+/// fault stays what it was.
+pub fn report_fault<K: Sink>(file: &[u8], fault: &Fault, out: &mut K)
+    ensures { Said (sink_view (K.taken out.old) (K.faults out.old))
+        (sink_view (K.taken out.new) (K.faults out.new)) (line_of file.now fault.now) }
+{
+    let _ = put_line(file, fault, out);
 }

@@ -1,5 +1,5 @@
 -- What a queue's next call is, where it stands.
-use Rattle.std.proofs.Common.{◌≡◌, ◌≢◌, ◌<◌, ◌⊎◌, ℕ, zero, suc, ◌+◌, ◌-◌, ◌&&◌, Bool, true, false, List, [], ◌∷◌, length, slice_get, Option, Some, None, refl, ap, ◌∙◌, inl, inr, add-one, arith, eqb}
+use Rattle.std.proofs.Common.{◌≡◌, ◌≢◌, ◌⊎◌, ℕ, zero, suc, ◌+◌, ◌-◌, Bool, true, false, List, [], ◌∷◌, length, slice_get, Option, Some, None, refl, ap, ◌∙◌, inl, inr, add-one, arith, eqb}
 use Rattle.sqe_cqe.specs.declared.sqe.Sqe.{Sqe}
 use Rattle.sqe_cqe.specs.declared.controllers.Bound.{Bound as CodeBound}
 use Rattle.sqe_cqe.specs.declared.controllers.Binding.{Binding as CodeBinding}
@@ -10,7 +10,7 @@ use Rattle.tree_target.specs.declared.calls.Reply.TheVariants as replies
 use Rattle.tree_target.specs.Kept as kept
 use Rattle.tree_target.specs.Kept.{Kept, bound_from}
 use Rattle.tree_target.specs.Model.{Bound, Binding, Target, Call, Submit, Execute, Poll, Control, binding_in, bound_of}
-use Rattle.tree_target.specs.Steps.{reply_of, target_after}
+use Rattle.tree_target.specs.Steps.{target_after}
 use Rattle.tree_target.specs.Stands.{StandsFor, Does, AreBound, IsBoundAs}
 use Rattle.run_transcript.specs.Turns.{Stage, Ready, Holding, Through, Progress, after_submit, after_call, first_call, next_by, next_capsule, next_call, is_admin_at, is_admin_bound}
 use Rattle.run_transcript.specs.Served.{is_final}

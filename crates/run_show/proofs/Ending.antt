@@ -1,5 +1,5 @@
 -- How the showing of a plan ends, put together.
-use Rattle.std.proofs.Common.{◌≡◌, ℕ, zero, suc, List, [], ◌∷◌, ◌++◌, take, Option, Some, None, Result, Ok, Err, refl, sym, ap, subst, ◌∙◌, inl, inr, arith}
+use Rattle.std.proofs.Common.{◌≡◌, ℕ, zero, suc, List, [], ◌∷◌, ◌++◌, take, Option, Some, None, Result, Ok, Err, refl, sym, subst, ◌∙◌, inl, inr, arith}
 use Rattle.std.proofs.lemmas.List.{append-nil}
 use Rattle.nvmetcli_json.specs.Saving.{saved}
 use Rattle.plan_files.specs.declared.items.Plan.{Plan}
@@ -10,18 +10,16 @@ use Rattle.run_outcomes.specs.declared.numbers.TheConstants.{PLAN, SINK}
 use Rattle.run_outcomes.specs.declared.faults.Fault.{Fault}
 use Rattle.run_outcomes.specs.declared.faults.Fault.TheVariants as fault
 use Rattle.run_outcomes.specs.Numbers.{file_of}
-use Rattle.run_outcomes.specs.Outsides.{Told, FilesView, SinkView, Outside, Kept, Took, Said, FailedPut}
+use Rattle.run_outcomes.specs.Outsides.{Told, FilesView, SinkView, Outside, Took, Said, FailedPut}
 use Rattle.run_outcomes.specs.Texts.{line_of}
 use Rattle.run_inputs.specs.Gives.{PlanBegins}
-use Rattle.run_inputs.specs.InputFiles.{InputFile, configuration_files, name_of}
+use Rattle.run_inputs.specs.InputFiles.{configuration_files, name_of}
 use Rattle.run_inputs.specs.Known.{Known, begun}
 use Rattle.run_inputs.specs.Reading.{ReadsSo, Reading, ReadsFiles}
 use Rattle.run_inputs.specs.Stages.{StartsIn}
 use Rattle.run_inputs.specs.Views.{IsEarlier}
-use Rattle.run_inputs.specs.Walk.{Then, Walk}
-use Rattle.run_inputs.specs.Gives.{FileGives}
-use Rattle.run_inputs.proofs.OneFile.{earlier_again, earlier_itself}
-use Rattle.run_inputs.proofs.Walking.{walk_was}
+use Rattle.run_inputs.proofs.OneFile.{earlier_again, earlier_itself, kept_by}
+use Rattle.run_inputs.proofs.Walking.{walk_was, walk_no_write}
 use Rattle.run_show.specs.Shown.{Shown}
 use Rattle.run_show.specs.Refusals.{ShowRefusal}
 use Rattle.run_show.specs.Stages.{ShowsText, ShowEnds}
@@ -45,9 +43,6 @@ shows_text now plan target count text name start is plan_read =
     }
 
 -- ---- what a plan that was read shows
-kept_by : (before after : FilesView) → IsEarlier before after → Kept before.told after.told
-kept_by before after e name = ap (λ (t : Told). t.holds name) (sym e.told)
-
 pub text_shown : (before after : FilesView) (taken taken' : Option (List ℕ)) (name text : List ℕ)
     → IsEarlier before after → ShowsText before.told name text → Took taken taken' text
     → Shown before.told after.told taken taken' name
@@ -95,19 +90,6 @@ plan_unread before after name fault.Memory r e said = record {
 }
 
 -- ---- a configuration that was not read
--- a write is no reason why reading ends
-walk_no_write : (before after : FilesView) (files : List InputFile) (s : Known) (n : _)
-    → Walk (Reading before after) files s (Err (fault.WriteFault n)) → ⊥
-walk_no_write before after [] s n w = absurd cc
-walk_no_write before after (file ∷ files) s n w =
-    by w.0 w.1 w.2 (λ v rest. walk_no_write before after files v n rest) where
-      by : (u : Result Known Fault) → Reading before after file.number file.name (FileGives file s) u
-          → Then u (Walk (Reading before after) files) (Err (fault.WriteFault n))
-          → ((v : Known) → Walk (Reading before after) files v (Err (fault.WriteFault n)) → ⊥) → ⊥
-      by (Ok v) says rest more = more v rest
-      by (Err f) says rest more = subst (λ (x : Result Known Fault). Reading before after file.number
-          file.name (FileGives file s) x) (sym rest) says
-
 files_unread : (before after : Outside) (name : List ℕ) (plan : Plan) (f : Fault)
     → ReadsSo before.files.told name PlanBegins (Ok (begun plan))
     → ReadsFiles before.files after.files (configuration_files plan.config) (begun plan) (Err f)

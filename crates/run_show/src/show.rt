@@ -8,8 +8,7 @@ ghost use Rattle.run_inputs.specs.Planned.{IsPlanned};
 ghost use Rattle.run_inputs.specs.Reading.{ReadsSo};
 ghost use Rattle.run_inputs.specs.Stages.{StoppedIn};
 ghost use Rattle.run_inputs.specs.Views.{IsEarlier, seen};
-ghost use Rattle.run_outcomes.specs.Outsides.{Said, outside, sink_view, told_by};
-ghost use Rattle.run_outcomes.specs.Texts.{line_of};
+ghost use Rattle.run_outcomes.specs.Outsides.{outside, told_by};
 ghost use Rattle.run_show.specs.Refusals.{ShowRefusal};
 ghost use Rattle.run_show.specs.Shown.{IsShowComplete, IsShowExact, Shown};
 ghost use Rattle.run_show.specs.Stages.{ShowEnds, ShowsText};
@@ -18,7 +17,7 @@ use configfs_tree::Tree;
 use nvmetcli_json::save;
 use plan_files::{Files, Plan, Sink};
 use run_inputs::{file_name, read_plan_file, read_start};
-use run_outcomes::{Fault, put_line, put_text};
+use run_outcomes::{Fault, put_text, report_fault};
 use std::alloc::{AllocError, Global};
 
 // The saved text of a tree, and a line end.
@@ -85,15 +84,6 @@ fn show_read<F: Files, K: Sink>(
         },
         Err(fault) => Err(fault),
     }
-}
-
-// Puts the line of a fault in the file of this name.
-fn report_fault<K: Sink>(file: &[u8], fault: &Fault, out: &mut K)
-    ensures { Said
-        (sink_view (K.taken out.old) (K.faults out.old))
-        (sink_view (K.taken out.new) (K.faults out.new)) (line_of file.now fault.now) }
-{
-    let _ = put_line(file, fault, out);
 }
 
 // The showing of a plan, with the line of its fault.
