@@ -128,7 +128,7 @@ pub record_more : (n : ℕ) (file : List Capsule) (all : List Response) (from : 
 record_more n file all from at next bound to left rest r last is final adds goes so_far queue p =
     let h = so_far queue p in
     let k = record_step p n queue file at r rest bound to last
-        (final_told n queue file at r last final) adds in (
+    (final_told n queue file at r last final) adds in (
       λ a. subst (λ (q : Progress). (to ≤ p) × BodyLeft p n queue file q rest) (sym (goes queue))
           (k.0 (subst (λ (rs : List Response). (bound ≤ p) × BodyLeft p n queue file at rs) is (h.0 a))),
       λ a. h.1 (subst (λ (rs : List Response). (bound ≤ p) × BodyLeft p n queue file at rs) (sym is)

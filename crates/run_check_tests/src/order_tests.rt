@@ -102,10 +102,7 @@ const FRONTS_AND_POLLS: &[Row] = &[
         b"not legal place 28 order\n",
     ),
     // And where the first is due.
-    (
-        &[Kind(Admin, 12, CONTROL)],
-        b"not legal place 28 order\n",
-    ),
+    (&[Kind(Admin, 12, CONTROL)], b"not legal place 28 order\n"),
 ];
 
 #[test]
