@@ -1,0 +1,3 @@
+pub mod Patching
+pub mod Keeping
+pub mod Listed
