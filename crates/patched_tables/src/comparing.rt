@@ -22,6 +22,7 @@ use table_rule::ticks::Steps;
 use target_table::table::{Seat, TargetTable};
 
 /// What is asked in a section.
+#[derive(Clone, Copy)]
 pub struct Question<'q> {
     /// The controller for which pages and logs are read.
     pub ctrl: &'q Ctrl,
@@ -38,6 +39,7 @@ pub struct Question<'q> {
 }
 
 /// What was found in a section.
+#[derive(Clone, Copy, Debug)]
 pub struct Found {
     /// Where its look and the other first differ.
     pub looks: Result<(), Difference>,

@@ -1,6 +1,8 @@
 //! A configuration with its words in a list, which each edit patches.
 ghost use Rattle.std.specs.Prelude.{◌≡◌, IsTrue, IfOk, slice_set};
 ghost use Rattle.link_rules.specs.Table.{is_fitting};
+ghost use Rattle.ns_table.specs.Kept.{HavePlaces};
+ghost use Rattle.patched_tables.specs.Listed.{AreListed};
 ghost use Rattle.ref_state.specs.State.{overlaid};
 
 use change_stamps::ChangeStamps;
@@ -42,9 +44,6 @@ fn put_words(words: &mut Vec<u64>, turned: &[(u32, u64)])
 /// A configuration whose words are listed beside it.
 #[derive(Drop)]
 pub struct Configured {
-    ghost use Rattle.ns_table.specs.Kept.{HavePlaces};
-    ghost use Rattle.patched_tables.specs.Listed.{AreListed};
-
     pub tree: Tree,
     pub controllers: Controllers,
     pub disks: Vec<Disk>,
