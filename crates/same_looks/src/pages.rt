@@ -112,7 +112,7 @@ fn get_log(id: u32, groups_only: bool) -> Sqe {
     e.nsid = 0xffff_ffff;
     e.sgl_len = LOG as u32;
     let specific = if groups_only { 0x100 } else { 0 };
-    e.cdw10 = 0x0fff_8000 + specific + id;
+    e.cdw10 = 0x0fff_8000 | specific | id;
     e
 }
 
