@@ -13,7 +13,6 @@ use Rattle.table_rule.specs.Plays.{Published, Drew, spare_of}
 use Rattle.table_rule.proofs.Claiming.{extended_total}
 use Rattle.rcu_sections.specs.Grace.{Look, after_looks}
 use Rattle.rcu_sections.proofs.Looking.{phase_after}
-use Rattle.ns_table.specs.declared.layout.TheConstants.{WORDS}
 use Rattle.patched_tables.specs.Patching.{patch_means}
 use Rattle.patched_tables.specs.Keeping.{Rests, Keeps, disks}
 
@@ -70,7 +69,7 @@ module _ (opened : List ℕ) (ps : List (List (ℕ × ℕ))) where
 
   pub spare_long : (last patch : List (ℕ × ℕ)) (v w : Told) → Keeps opened ps last v
       → w ≡ record v { notes = record v.notes { pending = patch ++ (last ++ v.notes.pending) } }
-      → length (spare_of w.notes) ≡ WORDS
+      → length (spare_of w.notes) ≡ length opened
   spare_long last patch v w h e = ap length (spare_is last patch v w h e)
       ∙ (overlaid-length (conf v.notes (length v.notes.published)) patch ∙ h.long)
 
@@ -86,10 +85,10 @@ module _ (opened : List ℕ) (ps : List (List (ℕ × ℕ))) where
       let shown : conf w.notes (length w.notes.published) ≡ conf v.notes (length v.notes.published) = ap (λ (z : Told). conf z.notes (length z.notes.published)) e in
       let many : length (w.notes.published ++ one ∷ []) ≡ length w.notes.published + 1 = length-append w.notes.published (one ∷ []) in
       let front : get_or (w.notes.confs ++ spare_of w.notes ∷ []) (length (w.notes.published ++ one ∷ []) - 1) [] ≡ conf w.notes (length w.notes.published)
-          = ap (λ k. get_or (w.notes.confs ++ spare_of w.notes ∷ []) k []) (let f : length (w.notes.published ++ one ∷ []) - 1 ≡ length w.notes.published = omega arith in f)
-          ∙ get_front w.notes.confs (spare_of w.notes) [] (length w.notes.published) (omega arith) in
+      = ap (λ k. get_or (w.notes.confs ++ spare_of w.notes ∷ []) k []) (let f : length (w.notes.published ++ one ∷ []) - 1 ≡ length w.notes.published = omega arith in f)
+      ∙ get_front w.notes.confs (spare_of w.notes) [] (length w.notes.published) (omega arith) in
       let back : get_or (w.notes.confs ++ spare_of w.notes ∷ []) (length (w.notes.published ++ one ∷ [])) [] ≡ spare_of w.notes
-          = get_last w.notes.confs (spare_of w.notes) [] (length (w.notes.published ++ one ∷ [])) (omega arith) in
+      = get_last w.notes.confs (spare_of w.notes) [] (length (w.notes.published ++ one ∷ [])) (omega arith) in
       let claimed : 0 < total (claims_of 0) w.claims = subst (λ (z : Told). 0 < total (claims_of 0) z.claims) (sym e) h.claim in
       subst (Keeps opened ps patch) (sym p.told) record {
         claim = subst (λ k. 0 < k) (sym (extended_total 0 tag w.claims)) claimed;

@@ -1,7 +1,6 @@
 -- What the seats of a patched table keep between two calls.
 use Rattle.std.specs.Prelude.{◌≡◌, ℕ, ◌+◌, ◌-◌, ◌<◌, List, [], length}
 use Rattle.atomic_table.specs.Seated.{TableId}
-use Rattle.ns_table.specs.declared.layout.TheConstants.{WORDS}
 use Rattle.ref_state.specs.declared.state.Phase.TheVariants.{Live}
 use Rattle.ref_state.specs.declared.state.Section.TheVariants.{Out}
 use Rattle.ref_state.specs.declared.state.LoadedMode.TheVariants.{NotLoaded}
@@ -40,7 +39,7 @@ pub record Keeps (opened : List ℕ) (patches : List (List (ℕ × ℕ))) (last 
   pub claim : 0 < total (claims_of 0) v.claims
   pub confs : length v.notes.confs ≡ length v.notes.published + 1
   pub none : v.notes.pending ≡ []
-  pub long : length (conf v.notes (length v.notes.published)) ≡ WORDS
+  pub long : length (conf v.notes (length v.notes.published)) ≡ length opened
   pub shown : conf v.notes (length v.notes.published)
       ≡ target (patch_means opened patches) v.known
   pub before : overlaid (conf v.notes (length v.notes.published - 1)) last

@@ -1,3 +1,2 @@
 pub mod Patching
 pub mod Keeping
-pub mod Listed

@@ -1,15 +1,11 @@
-//! A running table whose edits are patches: beside a configuration tree, whose every edit turns the
-//! words that `edit_words::edit` gives, those words are published on a table, and what its read
-//! sections answer is compared with what the tree answers.
+//! A running table of words whose edits are patches: each puts some words in place, and no others.
 //!
-//! Promises: the listed words of a configuration stay those of its tree, whatever edits and ends of
-//! drains come. On the table each edit puts the words of its patch in place, and no others, and a
-//! section compares all of its answers at one place. It is what tests stand on: a table of the
-//! configuration is opened by its words alone, and its extents hold nothing.
+//! Promises: between two edits the side that is shown has the words of the target, and the other
+//! side lacks the last patch alone, so that the next edit stores that patch and its own. It is what
+//! tests stand on: any words with any patches make such a table. No command is held on it, and its
+//! extents hold nothing.
 #![tactic(auto)]
 
-pub mod comparing;
-pub mod configured;
 pub mod meaning;
 pub mod opened;
 pub mod publishing;

@@ -1,6 +1,5 @@
 //! A table of words with an editor and one reader.
 ghost use Rattle.std.specs.Prelude.{◌≡◌, ◌<◌, ◌∷◌, [], IfOk, length, replicate};
-ghost use Rattle.ns_table.specs.declared.layout.TheConstants.{WORDS};
 ghost use Rattle.patched_tables.specs.Keeping.{IsOpened, Keeps, disks, slots};
 ghost use mathlib.Core.Option.{some};
 ghost use lib.ListN.{get_elem?};
@@ -46,9 +45,9 @@ pub fn open_patched<I: Patches>(
     reads: u32,
 ) -> Result<(Table<I>, Editor<u64>, Seat<u64>), AllocError>
     requires rows { rows.items ≡ I.opened }
-    requires long { length rows.items ≡ WORDS }
+    requires long { length rows.items < 4294967296 }
     requires few { (edits < 10000000) × (reads < 10000000) }
-    ensures key { IfOk result (λ r. (r.0.table.shared.key.rows ≡ WORDS)
+    ensures key { IfOk result (λ r. (r.0.table.shared.key.rows ≡ length I.opened)
         × (r.0.table.shared.key.disks ≡ disks)) }
     ensures editor { IfOk result (λ r. (r.1.seat.base.table_id ≡ r.0.table.shared.table_id)
         × Keeps I.opened I.patches [] r.1.seat.base.me.0 × (r.1.disks ≡ disks)

@@ -3,7 +3,7 @@ use crate::rolls::{named, written};
 use configfs_tree::{Attr, Folder, FolderEdit, Tree, may_be_disks};
 use link_rules::{Edit, LinkEdit, apply};
 use mem_bdev::{Disk, DiskLine, Name};
-use patched_tables::configured::Configured;
+use listed_words::configured::Configured;
 use sqe_cqe::Controllers;
 use std::alloc::Global;
 use std::process::Abort;

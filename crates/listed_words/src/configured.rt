@@ -2,7 +2,7 @@
 ghost use Rattle.std.specs.Prelude.{◌≡◌, IsTrue, IfOk, slice_set};
 ghost use Rattle.link_rules.specs.Table.{is_fitting};
 ghost use Rattle.ns_table.specs.Kept.{HavePlaces};
-ghost use Rattle.patched_tables.specs.Listed.{AreListed};
+ghost use Rattle.listed_words.specs.Listed.{AreListed};
 ghost use Rattle.ref_state.specs.State.{overlaid};
 
 use change_stamps::ChangeStamps;

@@ -11,7 +11,7 @@ use Rattle.ns_table.specs.declared.layout.TheConstants.{WORDS}
 use Rattle.ns_table.specs.Kept.{shape_of, stamps_by}
 use Rattle.ns_table.specs.Noted.{NothingIsStamped}
 use Rattle.ns_table.specs.Words.{Shape, Stamps as WordStamps, words_of, opened_shape, WordsArePlaced}
-use Rattle.patched_tables.specs.Listed.{AreListed}
+use Rattle.listed_words.specs.Listed.{AreListed}
 
 -- a write past the end of a list
 pub set_past : (xs : List ℕ) (at x : ℕ) → length xs ≤ at → slice_set xs at x ≡ xs

@@ -4,7 +4,7 @@ ghost use Rattle.ns_table.specs.declared.layout.TheConstants.{WORDS};
 ghost use Rattle.section_look.specs.Read.{is_placed};
 ghost use Rattle.patched_tables.specs.Keeping.{Rests};
 
-use crate::meaning::{Patches, Table};
+use patched_tables::meaning::{Patches, Table};
 use io_commands::Admit;
 use ns_table::rows::Rows;
 use rcu_sections::sections::{Section, enter, leave, place};
