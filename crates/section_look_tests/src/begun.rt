@@ -2,8 +2,8 @@
 use crate::rolls::{named, written};
 use configfs_tree::{Attr, Folder, FolderEdit, Tree, may_be_disks};
 use link_rules::{Edit, LinkEdit, apply};
-use mem_bdev::{Disk, DiskLine, Name};
 use listed_words::configured::Configured;
+use mem_bdev::{Disk, DiskLine, Name};
 use sqe_cqe::Controllers;
 use std::alloc::Global;
 use std::process::Abort;

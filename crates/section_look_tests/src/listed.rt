@@ -1,7 +1,7 @@
 // The words of a configuration beside those of a fresh opening.
 use configfs_tree::Change;
-use ns_table::opening::opened_words;
 use listed_words::configured::Configured;
+use ns_table::opening::opened_words;
 use std::alloc::Global;
 use std::process::Abort;
 use std::test::Fail;

@@ -8,9 +8,9 @@ use crate::begun::configured;
 use crate::listed::{Stamped, check_words};
 use crate::rolls::{Dice, Turn};
 use crate::served::{follow, is_admitted, served};
+use compared_sections::comparing::{Found, Question, compare};
 use configfs_tree::{Change, Errno, Refused};
 use edit_words::edits::EditWords;
-use compared_sections::comparing::{Found, Question, compare};
 use listed_words::configured::Configured;
 use patched_tables::meaning::{Patches, Table};
 use patched_tables::opened::open_patched;
@@ -66,10 +66,7 @@ fn is_published(answer: &Result<Change, Refused>) -> bool {
 
 // The words that the table is opened with, and by its number, from 1, those that each published
 // edit turns. Number 0 has none.
-fn gathered(
-    rt: &impl Abort,
-    alloc: Global,
-) -> Result<(Vec<u64>, Vec<EditWords>), Fail> {
+fn gathered(rt: &impl Abort, alloc: Global) -> Result<(Vec<u64>, Vec<EditWords>), Fail> {
     let mut part = configured(rt, alloc)?;
     let rows = part.words.as_slice().to_vec(alloc)?;
     let mut patches = Vec::new(alloc);
@@ -339,7 +336,15 @@ fn run<I: Patches, L: Ledger>(
     assert!(rt; patch_of(rt, patches, 0).is_empty());
     let (table, mut editor, mut reader) = open_patched::<I>(alloc, rows, 400, 400)?;
     let mut steps = Steps::<L>::start(blank);
-    take_turns(rt, alloc, &table, &mut editor, &mut reader, patches, &mut steps)
+    take_turns(
+        rt,
+        alloc,
+        &table,
+        &mut editor,
+        &mut reader,
+        patches,
+        &mut steps,
+    )
 }
 
 /// Before and after each of 200 edits the look of a section and the look at the tree answer alike

@@ -10,7 +10,6 @@ use std::process::Abort;
 use std::test::Fail;
 use tree_target::{Call, Reply, Target};
 
-
 fn loaded(rt: &impl Abort, alloc: Global) -> Target {
     let lines = lines(rt, alloc);
     assert!(rt; lines[0].is_shape());
