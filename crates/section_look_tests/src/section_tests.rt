@@ -1,6 +1,5 @@
 // Random edits are published, and what stands there is looked at in sections.
-ghost use Rattle.std.specs.Prelude.{◌≡◌, ◌<◌, ◌≤◌, ℕ, [], length};
-ghost use Rattle.ns_table.specs.declared.layout.TheConstants.{WORDS};
+ghost use Rattle.std.specs.Prelude.{◌≡◌, ◌+◌, ◌<◌, length};
 ghost use Rattle.patched_tables.specs.Keeping.{Keeps, Rests, disks};
 ghost use Rattle.patched_tables.specs.Patching.{patch_at};
 
@@ -12,6 +11,7 @@ use compared_sections::comparing::{Found, Question, compare};
 use configfs_tree::{Change, Errno, Refused};
 use edit_words::edits::EditWords;
 use listed_words::configured::Configured;
+use ns_table::layout::WORDS;
 use patched_tables::meaning::{Patches, Table};
 use patched_tables::opened::open_patched;
 use patched_tables::publishing::publish_patch;
@@ -180,7 +180,7 @@ fn publish_next<I: Patches, L: Ledger>(
     steps: &mut Steps<L>,
 )
     requires own { editor.old.seat.base.table_id ≡ table.now.table.shared.table_id }
-    requires plan { (table.now.table.shared.key.rows ≡ WORDS)
+    requires plan { (table.now.table.shared.key.rows ≡ WORDS) × (length I.opened ≡ WORDS)
         × (table.now.table.shared.key.disks ≡ disks) }
     requires patches { patches.now ≡ I.patches }
     requires few { number < 1000 }
@@ -193,7 +193,7 @@ fn publish_next<I: Patches, L: Ledger>(
     let last = patch_of(rt, patches, number);
     let patch = patch_of(rt, patches, number + 1);
     assert!(rt; editor.seat.left() > 0);
-    let drew = publish_patch(table, editor, last, patch, number + 1, steps);
+    let drew = publish_patch(table, editor, WORDS, last, patch, number + 1, steps);
     assert!(rt; drew.is_some());
 }
 
@@ -269,7 +269,7 @@ fn published<I: Patches, L: Ledger>(
     steps: &mut Steps<L>,
 ) -> u32
     requires own { editor.old.seat.base.table_id ≡ table.now.table.shared.table_id }
-    requires plan { (table.now.table.shared.key.rows ≡ WORDS)
+    requires plan { (table.now.table.shared.key.rows ≡ WORDS) × (length I.opened ≡ WORDS)
         × (table.now.table.shared.key.disks ≡ disks) }
     requires patches { patches.now ≡ I.patches }
     requires keeps { Keeps I.opened I.patches (patch_at I.patches number)
@@ -298,7 +298,7 @@ fn take_turns<I: Patches, L: Ledger>(
 ) -> Result<Tally, Fail>
     requires own { (editor.old.seat.base.table_id ≡ table.now.table.shared.table_id)
         × (reader.old.base.table_id ≡ table.now.table.shared.table_id) }
-    requires plan { (table.now.table.shared.key.rows ≡ WORDS)
+    requires plan { (table.now.table.shared.key.rows ≡ WORDS) × (length I.opened ≡ WORDS)
         × (table.now.table.shared.key.disks ≡ disks) }
     requires patches { patches.now ≡ I.patches }
     requires keeps { Keeps I.opened I.patches (patch_at I.patches 0) editor.old.seat.base.me.0 }
@@ -332,7 +332,7 @@ fn run<I: Patches, L: Ledger>(
     requires rows { rows.items ≡ I.opened }
     requires patches { patches.now ≡ I.patches }
 {
-    assert_eq!(rt; rows.len(), 361_592);
+    assert_eq!(rt; rows.len(), WORDS as usize);
     assert!(rt; patch_of(rt, patches, 0).is_empty());
     let (table, mut editor, mut reader) = open_patched::<I>(alloc, rows, 400, 400)?;
     let mut steps = Steps::<L>::start(blank);
