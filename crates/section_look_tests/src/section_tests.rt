@@ -28,7 +28,7 @@ use target_table::table::Seat;
 use tree_target::{Target, TreeLook};
 
 // How many edits are asked for.
-const EDITS: u32 = 5;
+const EDITS: u32 = 200;
 
 const SEED: u64 = 60;
 
@@ -155,11 +155,14 @@ fn followed(
     let errno = follow(rt, alloc, &mut side.target, turn)?;
     assert_eq!(rt; errno, errno_of(&answer));
     count(&mut side.tally, &answer);
-    if let Ok(change) = &answer {
-        side.stamped.note(change);
+    let Ok(change) = answer else {
+        return Ok((side, false));
+    };
+    side.stamped.note(&change);
+    if change.published {
+        check_words(rt, alloc, &side.configured, &side.stamped)?;
     }
-    check_words(rt, alloc, &side.configured, &side.stamped)?;
-    Ok((side, is_published(&answer)))
+    Ok((side, change.published))
 }
 
 // The words of a patch.
@@ -359,19 +362,5 @@ fn looks_in_sections_are_the_trees(rt: HostRuntime) -> Result<(), Fail> {
     assert!(rt; tally.published > 40 && tally.refused > 40, "{tally:?}");
     assert!(rt; tally.held > 5, "{tally:?}");
     assert_eq!(rt; tally.accepted + tally.refused, 200, "{tally:?}");
-    Ok(())
-}
-
-#[test]
-fn gathers(rt: HostRuntime) -> Result<(), Fail> {
-    let (rows, patches) = gathered(&rt, rt.alloc())?;
-    assert!(rt; rows.len() > 0 && patches.len() > 0);
-    Ok(())
-}
-
-#[test]
-fn begins(rt: HostRuntime) -> Result<(), Fail> {
-    let side = begun(&rt, rt.alloc())?;
-    check_words(&rt, rt.alloc(), &side.configured, &side.stamped)?;
     Ok(())
 }
