@@ -38,6 +38,13 @@ const STATES: [&str; 6] = [
 
 const TRTYPES: [&str; 3] = ["loop", "tcp", "pci"];
 
+/// What is done before a comparison: the drain of a namespace may end, and an edit is asked for.
+#[derive(Drop)]
+pub struct Turn {
+    pub drain: Option<(Nqn, u32)>,
+    pub edit: Edit,
+}
+
 /// A generator of numbers with a seed.
 #[derive(Drop)]
 pub struct Dice {
@@ -70,8 +77,8 @@ impl Dice {
         PORTS.get(at).copied().unwrap_or(0)
     }
 
-    /// The name of a subsystem.
-    pub fn sub(&mut self, rt: &impl Abort, alloc: Global) -> Nqn {
+    // The name of a subsystem.
+    fn sub(&mut self, rt: &impl Abort, alloc: Global) -> Nqn {
         let text = self.text(&SUBS);
         named(rt, alloc, text)
     }
@@ -151,14 +158,30 @@ impl Dice {
         }
     }
 
-    /// The next edit.
-    pub fn edit(&mut self, rt: &impl Abort, alloc: Global) -> Edit {
+    // The next edit.
+    fn edit(&mut self, rt: &impl Abort, alloc: Global) -> Edit {
         match self.roll(12) {
             0 | 1 | 2 => Edit::Folder(FolderEdit::Mkdir(self.folder(rt, alloc))),
             3 => Edit::Folder(FolderEdit::Rmdir(self.folder(rt, alloc))),
             4 => Edit::Link(self.link(rt, alloc)),
             _ => Edit::Folder(self.set(rt, alloc)),
         }
+    }
+
+    fn drain(&mut self, rt: &impl Abort, alloc: Global) -> Option<(Nqn, u32)> {
+        if self.roll(4) != 0 {
+            return None;
+        }
+        let sub = self.sub(rt, alloc);
+        let nsid = self.nsid();
+        Some((sub, nsid))
+    }
+
+    /// The next turn.
+    pub fn turn(&mut self, rt: &impl Abort, alloc: Global) -> Turn {
+        let drain = self.drain(rt, alloc);
+        let edit = self.edit(rt, alloc);
+        Turn { drain, edit }
     }
 }
 

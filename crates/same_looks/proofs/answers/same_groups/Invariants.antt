@@ -1,0 +1,8 @@
+use Rattle.std.proofs.Common.{◌≡◌}
+use Rattle.same_looks.proofs.answers.same_groups.Given as goal
+
+abbrev pub invariant-loop-group : goal.invariant-loop-group
+invariant-loop-group g l = record {
+  a : g.A.Look.behind l.a ≡ g.A.Look.behind l.fn.a;
+  b : g.B.Look.behind l.b ≡ g.B.Look.behind l.fn.b;
+}
