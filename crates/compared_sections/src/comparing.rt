@@ -4,9 +4,9 @@ ghost use Rattle.ns_table.specs.declared.layout.TheConstants.{WORDS};
 ghost use Rattle.section_look.specs.Read.{is_placed};
 ghost use Rattle.patched_tables.specs.Keeping.{Rests};
 
-use patched_tables::meaning::{Patches, Table};
 use io_commands::Admit;
 use ns_table::rows::Rows;
+use patched_tables::meaning::{Patches, Table};
 use rcu_sections::sections::{Section, enter, leave, place};
 use ref_state::kinds::{BARE, Tag};
 use same_looks::admissions::same_admissions;
@@ -50,11 +50,7 @@ pub struct Found {
 }
 
 // Pages, logs and admissions over two looks.
-fn same_commands<A: Look, B: Look>(
-    q: &Question<'_>,
-    a: &mut A,
-    b: &mut B,
-) -> Result<(), Difference>
+fn same_commands<A: Look, B: Look>(q: &Question<'_>, a: &mut A, b: &mut B) -> Result<(), Difference>
     ensures a { A.behind a.new ≡ A.behind a.old }
     ensures b { B.behind b.new ≡ B.behind b.old }
 {

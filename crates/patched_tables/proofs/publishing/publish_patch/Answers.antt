@@ -40,5 +40,5 @@ returns-clause-keeps g c =
     let tag : Tag = record { kind = 6; caller = 0; number = c.args.number } in
     let shows = c.publish.ensures.shows (keepers.spare_long o ps last patch a w begun set ∙ sym (c.requires.plan.0 ∙ c.requires.plan.1)) in
     let then = keepers.published_keeps o ps c.publish.result.0 c.publish.result.1 tag last patch a w p.0 begun set p.1
-        (ap (λ (z : Told). target (patch_means o ps) z.known) (sym p.2) ∙ shows) in
+    (ap (λ (z : Told). target (patch_means o ps) z.known) (sym p.2) ∙ shows) in
     keepers.keeps_after o ps patch (round c.set_both.new.editor.seats c.publish.new.editor.words) p.0 c.publish.new.editor.seat.base.me.0 p.2 then
