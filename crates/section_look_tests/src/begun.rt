@@ -7,7 +7,6 @@ use mem_bdev::{Disk, DiskLine, Name};
 use sqe_cqe::Controllers;
 use std::alloc::Global;
 use std::process::Abort;
-use std::test::Fail;
 
 fn line(rt: &impl Abort, alloc: Global, path: &str, shift: u8, blocks: u64) -> DiskLine {
     let path = Name::copied(alloc, path.as_bytes()).expect(rt, "memory");
@@ -27,12 +26,18 @@ pub fn lines(rt: &impl Abort, alloc: Global) -> [DiskLine; 3] {
     ]
 }
 
-fn disks(alloc: Global) -> Result<Vec<Disk>, Fail> {
+fn push_disk(rt: &impl Abort, alloc: Global, disks: &mut Vec<Disk>, shift: u8, blocks: u64) {
+    assert!(rt; (shift == 9 || shift == 12) && blocks > 0 && blocks < 100);
+    let disk = Disk::new(alloc, shift, blocks).expect(rt, "memory");
+    disks.push(disk).expect(rt, "memory");
+}
+
+fn disks(rt: &impl Abort, alloc: Global) -> Vec<Disk> {
     let mut disks = Vec::new(alloc);
-    disks.push(Disk::new(alloc, 9, 16)?)?;
-    disks.push(Disk::new(alloc, 12, 9)?)?;
-    disks.push(Disk::new(alloc, 9, 3)?)?;
-    Ok(disks)
+    push_disk(rt, alloc, &mut disks, 9, 16);
+    push_disk(rt, alloc, &mut disks, 12, 9);
+    push_disk(rt, alloc, &mut disks, 9, 3);
+    disks
 }
 
 // A folder of the configuration, and what is done to it.
@@ -128,14 +133,12 @@ fn edit(rt: &impl Abort, alloc: Global, row: Row) -> Edit {
 
 /// The edits that make two subsystems with three namespaces each, two ports that link them, three
 /// groups and two hosts.
-pub fn edits(rt: &impl Abort, alloc: Global) -> Result<Vec<Edit>, Fail> {
+pub fn edits(rt: &impl Abort, alloc: Global) -> Vec<Edit> {
     let mut edits = Vec::new(alloc);
     for row in ROWS {
-        let e = edit(rt, alloc, row);
-        assert!(rt; e.is_fitting(), "an edit that may be read");
-        edits.push(e)?;
+        edits.push(edit(rt, alloc, row)).expect(rt, "memory");
     }
-    Ok(edits)
+    edits
 }
 
 // Makes the edits, which are all accepted.
@@ -153,15 +156,25 @@ fn attach(rt: &impl Abort, tree: &mut Tree) {
     tree.attach(0, 0);
 }
 
-/// The configuration with one controller, which is ready.
-pub fn configured(rt: &impl Abort, alloc: Global) -> Result<Configured, Fail> {
+// The tree over these disks, empty.
+fn planted(rt: &impl Abort, alloc: Global) -> Tree {
     let lines = lines(rt, alloc);
     assert!(rt; may_be_disks(&lines));
-    let mut tree = Tree::new(alloc, &lines)?;
-    let edits = edits(rt, alloc)?;
-    make(rt, alloc, &mut tree, &edits);
+    Tree::new(alloc, &lines).expect(rt, "memory")
+}
+
+// The tree that the edits make, with one controller.
+fn grown(rt: &impl Abort, alloc: Global) -> Tree {
+    let mut tree = planted(rt, alloc);
+    make(rt, alloc, &mut tree, &edits(rt, alloc));
     attach(rt, &mut tree);
-    let controllers = Controllers::simple(alloc)?;
-    let disks = disks(alloc)?;
-    Ok(Configured::open(alloc, tree, controllers, disks)?)
+    tree
+}
+
+/// The configuration with one controller, which is ready.
+pub fn configured(rt: &impl Abort, alloc: Global) -> Configured {
+    let tree = grown(rt, alloc);
+    let controllers = Controllers::simple(alloc).expect(rt, "memory");
+    let disks = disks(rt, alloc);
+    Configured::open(alloc, tree, controllers, disks).expect(rt, "memory")
 }

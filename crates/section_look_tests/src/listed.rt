@@ -4,7 +4,6 @@ use listed_words::configured::Configured;
 use ns_table::opening::opened_words;
 use std::alloc::Global;
 use std::process::Abort;
-use std::test::Fail;
 
 /// The stamps of the subsystems and of the ports, kept by the rules of changes alone.
 #[derive(Drop)]
@@ -70,18 +69,13 @@ fn wanted(part: &Configured, stamped: &Stamped, at: usize, fresh: u64) -> u64 {
 
 /// All words are those of a fresh opening of the configuration as it is, but for the stamps, which
 /// are those that were noted.
-pub fn check_words(
-    rt: &impl Abort,
-    alloc: Global,
-    part: &Configured,
-    stamped: &Stamped,
-) -> Result<(), Fail> {
-    let fresh = opened_words(alloc, &part.tree, &part.controllers, &part.disks)?;
+pub fn check_words(rt: &impl Abort, alloc: Global, part: &Configured, stamped: &Stamped) {
+    let fresh = opened_words(alloc, &part.tree, &part.controllers, &part.disks);
+    let fresh = fresh.expect(rt, "memory");
     let words = part.words.as_slice();
     assert_eq!(rt; words.len(), fresh.len());
     for at in 0..words.len() {
         let want = wanted(part, stamped, at, fresh[at]);
         assert!(rt; words[at] == want, "word {at}: {} for {want}", words[at]);
     }
-    Ok(())
 }

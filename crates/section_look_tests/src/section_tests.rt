@@ -10,6 +10,7 @@ use crate::served::{follow, is_admitted, served};
 use compared_sections::comparing::{Found, Question, compare};
 use configfs_tree::{Change, Errno, Refused};
 use edit_words::edits::EditWords;
+use io_commands::Admit;
 use listed_words::configured::Configured;
 use ns_table::layout::WORDS;
 use patched_tables::meaning::{Patches, Table};
@@ -64,26 +65,45 @@ fn is_published(answer: &Result<Change, Refused>) -> bool {
     }
 }
 
-// The words that the table is opened with, and by its number, from 1, those that each published
-// edit turns. Number 0 has none.
-fn gathered(rt: &impl Abort, alloc: Global) -> Result<(Vec<u64>, Vec<EditWords>), Fail> {
-    let mut part = configured(rt, alloc)?;
-    let rows = part.words.as_slice().to_vec(alloc)?;
+// Room for the words of an edit.
+fn no_words(rt: &impl Abort, alloc: Global) -> EditWords {
+    EditWords::new(alloc).expect(rt, "memory")
+}
+
+// Keeps the words of an edit that is published; another one has none.
+fn keep(rt: &impl Abort, patches: &mut Vec<EditWords>, words: EditWords, is_published: bool) {
+    if is_published {
+        patches.push(words).expect(rt, "memory");
+    } else {
+        assert!(rt; words.words().is_empty(), "nothing was published");
+    }
+}
+
+// Takes the next turn.
+fn gather(
+    rt: &impl Abort,
+    alloc: Global,
+    part: Configured,
+    dice: &mut Dice,
+    patches: &mut Vec<EditWords>,
+) -> Configured {
+    let turn = dice.turn(rt, alloc);
+    let mut words = no_words(rt, alloc);
+    let (after, answer) = take_turn(rt, alloc, part, &turn, &mut words);
+    keep(rt, patches, words, is_published(&answer));
+    after
+}
+
+// By its number, from 1, the words that each published edit turns. Number 0 has none.
+fn gathered(rt: &impl Abort, alloc: Global, part: Configured) -> Vec<EditWords> {
+    let mut part = part;
     let mut patches = Vec::new(alloc);
-    patches.push(EditWords::new(alloc)?)?;
+    patches.push(no_words(rt, alloc)).expect(rt, "memory");
     let mut dice = Dice { state: SEED };
     for _ in 0..EDITS {
-        let turn = dice.turn(rt, alloc);
-        let mut words = EditWords::new(alloc)?;
-        let (after, answer) = take_turn(rt, alloc, part, &turn, &mut words);
-        part = after;
-        if is_published(&answer) {
-            patches.push(words)?;
-        } else {
-            assert!(rt; words.words().is_empty(), "nothing was published");
-        }
+        part = gather(rt, alloc, part, &mut dice, &mut patches);
     }
-    Ok((rows, patches))
+    patches
 }
 
 // What was counted in a run.
@@ -95,26 +115,28 @@ struct Tally {
     held: u32,
 }
 
-// The sequential side of a run: the configuration with its words, and the target.
+// What stands beside the configuration: the sequential target over the same one, the controller for
+// which pages are read, and what was counted.
 #[derive(Drop)]
-struct Sequential {
-    configured: Configured,
+struct Beside {
     stamped: Stamped,
     target: Target,
-    words: EditWords,
     ctrl: Ctrl,
     tally: Tally,
 }
 
-fn begun(rt: &impl Abort, alloc: Global) -> Result<Sequential, Fail> {
-    let configured = configured(rt, alloc)?;
-    let first = configured.controllers.rows().first();
-    let ctrl = first.expect(rt, "a controller").ctrl;
-    Ok(Sequential {
-        configured,
+// The first controller.
+fn ctrl_of(rt: &impl Abort, part: &Configured) -> Ctrl {
+    let first = part.controllers.rows().first();
+    first.expect(rt, "a controller").ctrl
+}
+
+fn begun(rt: &impl Abort, alloc: Global, part: &Configured) -> Beside {
+    let ctrl = ctrl_of(rt, part);
+    let target = served(rt, alloc);
+    Beside {
         stamped: Stamped::new(),
-        target: served(rt, alloc)?,
-        words: EditWords::new(alloc)?,
+        target,
         ctrl,
         tally: Tally {
             accepted: 0,
@@ -122,7 +144,7 @@ fn begun(rt: &impl Abort, alloc: Global) -> Result<Sequential, Fail> {
             published: 0,
             held: 0,
         },
-    })
+    }
 }
 
 // The errno of a refusal.
@@ -141,28 +163,42 @@ fn count(tally: &mut Tally, answer: &Result<Change, Refused>) {
     }
 }
 
-// Takes a turn on both: the edit gets one answer, and the words are those of a fresh opening.
-// Whether it is published.
+// Notes what an edit that was accepted stamps.
+fn note(stamped: &mut Stamped, answer: &Result<Change, Refused>) {
+    if let Ok(change) = answer {
+        stamped.note(change);
+    }
+}
+
+// The edit of a turn gets this answer from the target, too, and the words after it are those of a
+// fresh opening.
+fn check_turn(
+    rt: &impl Abort,
+    alloc: Global,
+    part: &Configured,
+    beside: &mut Beside,
+    turn: &Turn,
+    answer: &Result<Change, Refused>,
+) {
+    let errno = follow(rt, alloc, &mut beside.target, turn);
+    assert_eq!(rt; errno, errno_of(answer));
+    count(&mut beside.tally, answer);
+    note(&mut beside.stamped, answer);
+    check_words(rt, alloc, part, &beside.stamped);
+}
+
+// Takes a turn on both. Whether its edit is published.
 fn followed(
     rt: &impl Abort,
     alloc: Global,
-    side: Sequential,
+    part: Configured,
+    beside: &mut Beside,
     turn: &Turn,
-) -> Result<(Sequential, bool), Fail> {
-    let mut side = side;
-    let (after, answer) = take_turn(rt, alloc, side.configured, turn, &mut side.words);
-    side.configured = after;
-    let errno = follow(rt, alloc, &mut side.target, turn)?;
-    assert_eq!(rt; errno, errno_of(&answer));
-    count(&mut side.tally, &answer);
-    let Ok(change) = answer else {
-        return Ok((side, false));
-    };
-    side.stamped.note(&change);
-    if change.published {
-        check_words(rt, alloc, &side.configured, &side.stamped)?;
-    }
-    Ok((side, change.published))
+) -> (Configured, bool) {
+    let mut words = no_words(rt, alloc);
+    let (after, answer) = take_turn(rt, alloc, part, turn, &mut words);
+    check_turn(rt, alloc, &after, beside, turn, &answer);
+    (after, is_published(&answer))
 }
 
 // The words of a patch.
@@ -222,6 +258,13 @@ fn entry(turn: u32, nsid: u32) -> Sqe {
     command(opcode, nsid, bytes)
 }
 
+// Submits the command to the target, which admits it alike, and counts it where it is held.
+fn admit(rt: &impl Abort, alloc: Global, beside: &mut Beside, e: &Sqe, admitted: &Admit) {
+    if is_admitted(rt, alloc, &mut beside.target, e, admitted) {
+        beside.tally.held = beside.tally.held.wrapping_add(1);
+    }
+}
+
 // Compares all in a section of the reader, at the place and with the serial that are due. Submits
 // the command to the target, and executes it where it is held.
 fn check<I: Patches, L: Ledger>(
@@ -229,21 +272,21 @@ fn check<I: Patches, L: Ledger>(
     alloc: Global,
     table: &Table<I>,
     reader: &mut Seat<u64>,
-    side: &mut Sequential,
+    part: &Configured,
+    beside: &mut Beside,
     number: u32,
     e: &Sqe,
     steps: &mut Steps<L>,
-) -> Result<(), Fail>
+)
     requires own { reader.old.base.table_id ≡ table.now.table.shared.table_id }
     requires rows { table.now.table.shared.key.rows ≡ WORDS }
     requires rests { Rests reader.old.number reader.old.base.me.0 }
     ensures own { reader.new.base.table_id ≡ reader.old.base.table_id }
     ensures rests { Rests reader.new.number reader.new.base.me.0 }
 {
-    let part = &side.configured;
     let mut look = TreeLook::new(&part.tree, &part.controllers, &part.disks, &part.stamps);
     let q = Question {
-        ctrl: &side.ctrl,
+        ctrl: &beside.ctrl,
         bound: BOUND,
         entry: e,
         since: part.stamps.serial() / 2,
@@ -254,11 +297,8 @@ fn check<I: Patches, L: Ledger>(
     let (at, serial, found) = compare(table, reader, number, &q, &mut look, steps);
     check_found(rt, &found);
     assert_eq!(rt; at, number.wrapping_add(serial));
-    assert_eq!(rt; serial, side.tally.published);
-    if is_admitted(rt, alloc, &mut side.target, e, &found.admitted)? {
-        side.tally.held = side.tally.held.wrapping_add(1);
-    }
-    Ok(())
+    assert_eq!(rt; serial, beside.tally.published);
+    admit(rt, alloc, beside, e, &found.admitted);
 }
 
 // Publishes the next patch, where the edit was published: how many were.
@@ -298,7 +338,7 @@ fn take_turns<I: Patches, L: Ledger>(
     reader: &mut Seat<u64>,
     patches: &[EditWords],
     steps: &mut Steps<L>,
-) -> Result<Tally, Fail>
+) -> Tally
     requires own { (editor.old.seat.base.table_id ≡ table.now.table.shared.table_id)
         × (reader.old.base.table_id ≡ table.now.table.shared.table_id) }
     requires plan { (table.now.table.shared.key.rows ≡ WORDS) × (length I.opened ≡ WORDS)
@@ -307,20 +347,38 @@ fn take_turns<I: Patches, L: Ledger>(
     requires keeps { Keeps I.opened I.patches (patch_at I.patches 0) editor.old.seat.base.me.0 }
     requires rests { Rests reader.old.number reader.old.base.me.0 }
 {
-    let mut side = begun(rt, alloc)?;
+    let mut part = configured(rt, alloc);
+    let mut beside = begun(rt, alloc, &part);
     let mut dice = Dice { state: SEED };
-    check(rt, alloc, table, reader, &mut side, 0, &entry(0, 1), steps)?;
+    let e = entry(0, 1);
+    check(rt, alloc, table, reader, &part, &mut beside, 0, &e, steps);
     let mut number = 0;
     for turn in 0..EDITS {
         let next = dice.turn(rt, alloc);
-        let (after, is_published) = followed(rt, alloc, side, &next)?;
-        side = after;
+        let (after, is_published) = followed(rt, alloc, part, &mut beside, &next);
+        part = after;
         number = published(rt, table, editor, patches, number, is_published, steps);
-        side.tally.published = number;
+        beside.tally.published = number;
         let e = entry(turn, dice.nsid());
-        check(rt, alloc, table, reader, &mut side, turn + 1, &e, steps)?;
+        check(
+            rt,
+            alloc,
+            table,
+            reader,
+            &part,
+            &mut beside,
+            turn + 1,
+            &e,
+            steps,
+        );
     }
-    Ok(side.tally)
+    beside.tally
+}
+
+// The words that the table is opened with.
+fn opened(rt: &impl Abort, alloc: Global) -> Vec<u64> {
+    let part = configured(rt, alloc);
+    part.words.as_slice().to_vec(alloc).expect(rt, "memory")
 }
 
 // Opens a table with these words, and takes all turns on it: what was counted.
@@ -330,14 +388,15 @@ fn run<I: Patches, L: Ledger>(
     rows: Vec<u64>,
     patches: &[EditWords],
     blank: Blank,
-) -> Result<Tally, Fail>
+) -> Tally
     requires name { (blank.name ≡ L.name) × (blank.parts ≡ L.parts) × (L.parts ≡ 5) }
     requires rows { rows.items ≡ I.opened }
     requires patches { patches.now ≡ I.patches }
 {
     assert_eq!(rt; rows.len(), WORDS as usize);
     assert!(rt; patch_of(rt, patches, 0).is_empty());
-    let (table, mut editor, mut reader) = open_patched::<I>(alloc, rows, 400, 400)?;
+    let opened = open_patched::<I>(alloc, rows, 400, 400);
+    let (table, mut editor, mut reader) = opened.expect(rt, "memory");
     let mut steps = Steps::<L>::start(blank);
     take_turns(
         rt,
@@ -357,8 +416,10 @@ fn run<I: Patches, L: Ledger>(
 /// command that is admitted in the section gets its answer from the target too.
 #[test]
 fn looks_in_sections_are_the_trees(rt: HostRuntime) -> Result<(), Fail> {
-    let (rows, patches) = gathered(&rt, rt.alloc())?;
-    let tally = run::<Brand, Brand>(&rt, rt.alloc(), rows, &patches, Blank::new(5))?;
+    let alloc = rt.alloc();
+    let rows = opened(&rt, alloc);
+    let patches = gathered(&rt, alloc, configured(&rt, alloc));
+    let tally = run::<Brand, Brand>(&rt, alloc, rows, &patches, Blank::new(5));
     assert!(rt; tally.published > 40 && tally.refused > 40, "{tally:?}");
     assert!(rt; tally.held > 5, "{tally:?}");
     assert_eq!(rt; tally.accepted + tally.refused, 200, "{tally:?}");

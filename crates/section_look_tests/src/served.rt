@@ -3,11 +3,11 @@ use crate::begun::{edits, lines};
 use crate::rolls::Turn;
 use configfs_tree::{Errno, may_be_disks};
 use io_commands::Admit;
+use link_rules::Edit;
 use mem_bdev::{Buffer, DiskLine};
 use sqe_cqe::{FABRICS, Sqe, read_sqe};
 use std::alloc::Global;
 use std::process::Abort;
-use std::test::Fail;
 use tree_target::{Call, Reply, Target};
 
 fn loaded(rt: &impl Abort, alloc: Global) -> Target {
@@ -53,21 +53,36 @@ fn connect(rt: &impl Abort, target: &mut Target, queue: u32, qid: u16, cntlid: u
     control(rt, target, queue, &e, &data);
 }
 
+// Makes an edit, which is accepted.
+fn accept(rt: &impl Abort, alloc: Global, target: &mut Target, e: &Edit) {
+    assert!(rt; e.is_fitting());
+    let reply = target.edit(alloc, 1, e).expect(rt, "memory");
+    assert_eq!(rt; reply, Reply::Accepted);
+}
+
+fn accept_all(rt: &impl Abort, alloc: Global, target: &mut Target, edits: &[Edit]) {
+    for e in edits {
+        accept(rt, alloc, target, e);
+    }
+}
+
+// Sets CC.EN of the controller of an admin queue.
+fn enable(rt: &impl Abort, target: &mut Target, queue: u32) {
+    let mut e = fabrics(0x00, 0);
+    e.cdw11 = 0x14;
+    e.cdw12 = 0x0046_0001;
+    control(rt, target, queue, &e, &[]);
+}
+
 /// The target: queue 1 is connected as QID 1 of controller 1, which is enabled, and queue 2 is its
 /// admin queue.
-pub fn served(rt: &impl Abort, alloc: Global) -> Result<Target, Fail> {
+pub fn served(rt: &impl Abort, alloc: Global) -> Target {
     let mut target = loaded(rt, alloc);
-    for e in &edits(rt, alloc)? {
-        assert!(rt; e.is_fitting());
-        assert_eq!(rt; target.edit(alloc, 1, e)?, Reply::Accepted);
-    }
+    accept_all(rt, alloc, &mut target, &edits(rt, alloc));
     connect(rt, &mut target, 2, 0, 0xffff);
     connect(rt, &mut target, 1, 1, 1);
-    let mut enable = fabrics(0x00, 0);
-    enable.cdw11 = 0x14;
-    enable.cdw12 = 0x0046_0001;
-    control(rt, &mut target, 2, &enable, &[]);
-    Ok(target)
+    enable(rt, &mut target, 2);
+    target
 }
 
 // The status of a completion.
@@ -86,33 +101,33 @@ fn errno_of(reply: &Reply) -> Option<Errno> {
     }
 }
 
-/// Ends the drain and makes the edit of a turn: the errno, where the edit is refused.
-pub fn follow(
-    rt: &impl Abort,
-    alloc: Global,
-    target: &mut Target,
-    turn: &Turn,
-) -> Result<Option<Errno>, Fail> {
+// Ends the drain of a turn, where one may end.
+fn end(rt: &impl Abort, target: &mut Target, turn: &Turn) {
     if let Some((sub, nsid)) = &turn.drain {
         if target.may_end(sub, *nsid) {
             assert_eq!(rt; target.end_drain(1, sub, *nsid), Reply::Ended);
         }
     }
+}
+
+/// Ends the drain and makes the edit of a turn: the errno, where the edit is refused.
+pub fn follow(rt: &impl Abort, alloc: Global, target: &mut Target, turn: &Turn) -> Option<Errno> {
+    end(rt, target, turn);
     assert!(rt; turn.edit.is_fitting());
-    let reply = target.edit(alloc, 1, &turn.edit)?;
-    Ok(errno_of(&reply))
+    let reply = target.edit(alloc, 1, &turn.edit).expect(rt, "memory");
+    errno_of(&reply)
 }
 
 // Executes the held command of queue 1, which succeeds.
-fn finish(rt: &impl Abort, alloc: Global, target: &mut Target, len: u32) -> Result<(), Fail> {
+fn finish(rt: &impl Abort, alloc: Global, target: &mut Target, len: u32) {
     let data = [7; 4096];
     let payload = data.get(..len as usize).unwrap_or(&[]);
     assert!(rt; target.is_held(1, 0));
     assert!(rt; target.takes(1, 0, payload.len()));
-    let mut to = Buffer::with_room(alloc, target.held_len(1, 0) as usize)?;
+    let room = target.held_len(1, 0) as usize;
+    let mut to = Buffer::with_room(alloc, room).expect(rt, "memory");
     let reply = target.execute(1, 0, payload, &mut to);
     assert_eq!(rt; status_of(&reply), Some(0));
-    Ok(())
 }
 
 /// The command of queue 1 gets from the target what it was admitted with, and is executed where it
@@ -123,18 +138,18 @@ pub fn is_admitted(
     target: &mut Target,
     e: &Sqe,
     admitted: &Admit,
-) -> Result<bool, Fail> {
+) -> bool {
     assert!(rt; target.queues() == 2 && target.is_idle(1) && !target.is_admin(1));
     let reply = target.submit(1, 0, e);
     match admitted {
         Admit::Refused(status) => {
             assert_eq!(rt; status_of(&reply), Some(*status));
-            Ok(false)
+            false
         }
         Admit::Run(_) => {
             assert_eq!(rt; reply, Reply::Held);
-            finish(rt, alloc, target, e.sgl_len)?;
-            Ok(true)
+            finish(rt, alloc, target, e.sgl_len);
+            true
         }
     }
 }
