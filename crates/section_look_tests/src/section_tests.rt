@@ -350,6 +350,7 @@ fn take_turns<I: Patches, L: Ledger>(
     let mut part = configured(rt, alloc);
     let mut beside = begun(rt, alloc, &part);
     let mut dice = Dice { state: SEED };
+    let mut others = Dice { state: SEED };
     let e = entry(0, 1);
     check(rt, alloc, table, reader, &part, &mut beside, 0, &e, steps);
     let mut number = 0;
@@ -359,7 +360,7 @@ fn take_turns<I: Patches, L: Ledger>(
         part = after;
         number = published(rt, table, editor, patches, number, is_published, steps);
         beside.tally.published = number;
-        let e = entry(turn, dice.nsid());
+        let e = entry(turn, others.nsid());
         check(
             rt,
             alloc,
