@@ -290,7 +290,7 @@ fn check<I: Patches, L: Ledger>(
         bound: BOUND,
         entry: e,
         since: part.stamps.serial() / 2,
-        whole: number % 10 == 0,
+        whole: true,
         words: &part.words,
     };
     assert!(rt; reader.left() > 0);
@@ -411,9 +411,8 @@ fn run<I: Patches, L: Ledger>(
 }
 
 /// Before and after each of 200 edits the look of a section and the look at the tree answer alike
-/// for every NSID, every group and every controller, give the same pages and logs, and admit alike;
-/// the pages of every NSID are compared after each tenth edit, and else those of eight. All words
-/// are those of a fresh opening. A refused edit publishes nothing, with the target's errno, and a
+/// for every NSID, every group and every controller, give the same pages and logs, and admit alike.
+/// All words are those of a fresh opening. A refused edit publishes nothing, with the target's errno, and a
 /// command that is admitted in the section gets its answer from the target too.
 #[test]
 fn looks_in_sections_are_the_trees(rt: HostRuntime) -> Result<(), Fail> {
