@@ -4,6 +4,7 @@ pub mod LowFree
 pub mod Placing
 pub mod Scans
 pub mod Seen
+pub mod SortedRows
 pub mod Texts
 pub mod Each
 pub mod Decimals

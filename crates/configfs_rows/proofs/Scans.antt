@@ -1,64 +1,59 @@
--- Scans of what an iterator of a map lends: whether anything passes a test, the first that does,
--- and the item with a number.
-use Rattle.std.proofs.Common.{◌≡◌, Bool, true, false, ◌||◌, List, [], ◌∷◌, ◌++◌, map, cond, ℕ, length, Option, Some, None, is_some, option_copied, option_map, refl, sym, ap, ◌∙◌}
+-- Scans of entries and of what an iterator of a map lends: the first that passes a test, whether
+-- anything does, and the item with a number.
+use Rattle.std.proofs.Common.{◌≡◌, Bool, true, false, ◌||◌, T, List, [], ◌∷◌, cond, ℕ, zero, suc, ◌+◌, ◌<◌, ◌≤◌, length, take, get_or, Option, Some, None, is_some, option_copied, option_map, refl, sym, ap, subst, ◌∙◌, arith}
 use Rattle.std.specs.List.{list_any, find, slice_get}
-use Rattle.std.specs.Option.{option_or}
-use Rattle.std.proofs.lemmas.List.{map-append}
-use Rattle.std.specs.Iterator.{Yields, SkipsThenYields}
+use Rattle.std.specs.Map.{values_of}
+use Rattle.std.specs.Iterator.{SkipsThenYields}
 use Rattle.std.specs.Map.Iter.{TakesFirst, deref}
 use Rattle.std.proofs.lemmas.Iterator.Consumers.{nth_from_yields_List, YieldsList-from_shown}
 use denote.Ref.{Bor}
-use Rattle.std.proofs.lemmas.Map.Iter.{rest_so_far, rest_more, rest_all}
-use Rattle.std.proofs.lemmas.List.Folds.{list_any-append, find-append}
 
-module _ {A X : Type 0} (shows : A → X) (p : X → Bool) where
-  pub scan_hit : (all : List X) (xs : List A) (s t u : List X) (r : Option A) (x : A) → s ≡ all
-      → Yields (TakesFirst shows) s xs t → r ≡ Some x → TakesFirst shows t r u → p (shows x) ≡ true
-      → list_any p (map shows xs) ≡ false → list_any p all ≡ true
-  scan_hit all xs s t u r x start y is step hit none =
-      ap (list_any p) (sym start ∙ rest_so_far shows xs s t y
-      ∙ ap (λ ys. map shows xs ++ ys) (rest_more shows t u r x is step))
-      ∙ list_any-append p (map shows xs) (shows x ∷ u)
-      ∙ ap (λ b. b || (p (shows x) || list_any p u)) none
-      ∙ ap (λ b. b || list_any p u) hit
+-- ---- entries that are read one after another, for the first whose value passes
+module _ {K X : Type 0} (p : X → Bool) where
+  pub first_hit : (es : List (K × X)) (n : ℕ) (d : K × X) → n < length es → d ≡ get_or es n d
+      → find p (values_of (take n es)) ≡ None → p d.1 ≡ true → Some d.1 ≡ find p (values_of es)
+  first_hit [] n d lt is none hit = absurd (omega (arith, lt))
+  first_hit (e ∷ es) zero d lt is none hit =
+      ap (λ (x : K × X). Some x.1) is
+      ∙ sym (ap (λ b. cond b (Some e.1) (find p (values_of es)))
+      (sym (ap (λ (x : K × X). p x.1) is) ∙ hit))
+  first_hit (e ∷ es) (suc n) d lt is none hit =
+      elim (p e.1) as (λ b. cond b (Some e.1) (find p (values_of (take n es))) ≡ None
+      → Some d.1 ≡ cond b (Some e.1) (find p (values_of es))) [
+        | true ↦ λ h. absurd (subst (λ o. T (is_some o)) h tt)
+        | false ↦ λ h. first_hit es n d (omega (arith, lt)) is h hit
+      ] none
 
-  pub scan_end : (all : List X) (xs : List A) (s t u : List X) (r : Option A) → s ≡ all
-      → Yields (TakesFirst shows) s xs t → r ≡ None → TakesFirst shows t r u
-      → list_any p (map shows xs) ≡ false → list_any p all ≡ false
-  scan_end all xs s t u r start y is step none =
-      ap (list_any p) (sym start ∙ rest_so_far shows xs s t y
-      ∙ ap (λ ys. map shows xs ++ ys) (rest_all shows t u r is step))
-      ∙ list_any-append p (map shows xs) []
-      ∙ ap (λ b. b || false) none
+  missed_on : (es : List (K × X)) (n : ℕ) (d : K × X) → n < length es → d ≡ get_or es n d
+      → find p (values_of (take n es)) ≡ None → p d.1 ≡ false
+      → find p (values_of (take (suc n) es)) ≡ None
+  missed_on [] n d lt is none miss = refl
+  missed_on (e ∷ es) zero d lt is none miss =
+      ap (λ b. cond b (Some e.1) None) (sym (ap (λ (x : K × X). p x.1) is) ∙ miss)
+  missed_on (e ∷ es) (suc n) d lt is none miss =
+      elim (p e.1) as (λ b. cond b (Some e.1) (find p (values_of (take n es))) ≡ None
+      → cond b (Some e.1) (find p (values_of (take (suc n) es))) ≡ None) [
+        | true ↦ λ h. absurd (subst (λ o. T (is_some o)) h tt)
+        | false ↦ λ h. missed_on es n d (omega (arith, lt)) is h miss
+      ] none
 
-find_after : {X : Type 0} (p : X → Bool) (xs ys : List X) → find p xs ≡ None
-    → find p (xs ++ ys) ≡ find p ys
-find_after p xs ys none = find-append p xs ys ∙ ap (λ o. option_or o (find p ys)) none
+  pub next_missed : (es : List (K × X)) (n : ℕ) (d : K × X) → n < length es → d ≡ get_or es n d
+      → find p (values_of (take n es)) ≡ None → p d.1 ≡ false
+      → find p (values_of (take (n + 1) es)) ≡ None
+  next_missed es n d lt is none miss =
+      let next : suc n ≡ n + 1 = omega arith in
+      subst (λ m. find p (values_of (take m es)) ≡ None) next (missed_on es n d lt is none miss)
 
-module _ {A X : Type 0} (shows : A → X) (p : X → Bool) where
-  pub find_hit : (all : List X) (xs : List A) (s t u : List X) (r : Option A) (x : A) → s ≡ all
-      → Yields (TakesFirst shows) s xs t → r ≡ Some x → TakesFirst shows t r u → p (shows x) ≡ true
-      → find p (map shows xs) ≡ None → find p all ≡ Some (shows x)
-  find_hit all xs s t u r x start y is step hit none =
-      ap (find p) (sym start ∙ rest_so_far shows xs s t y ∙ ap (λ ys. map shows xs
-      ++ ys) (rest_more shows t u r x is step))
-      ∙ find_after p (map shows xs) (shows x ∷ u) none
-      ∙ ap (λ b. cond b (Some (shows x)) (find p u)) hit
-
-  pub find_end : (all : List X) (xs : List A) (s t u : List X) (r : Option A) → s ≡ all
-      → Yields (TakesFirst shows) s xs t → r ≡ None → TakesFirst shows t r u
-      → find p (map shows xs) ≡ None → find p all ≡ None
-  find_end all xs s t u r start y is step none =
-      ap (find p) (sym start ∙ rest_so_far shows xs s t y ∙ ap (λ ys. map shows xs
-      ++ ys) (rest_all shows t u r is step))
-      ∙ find_after p (map shows xs) [] none
-
-  pub find_on : (xs : List A) (x : A) → find p (map shows xs) ≡ None → p (shows x) ≡ false
-      → find p (map shows (xs ++ x ∷ [])) ≡ None
-  find_on xs x none miss =
-      ap (find p) (map-append shows xs (x ∷ []))
-      ∙ find_after p (map shows xs) (shows x ∷ []) none
-      ∙ ap (λ b. cond b (Some (shows x)) None) miss
+  pub all_missed : (es : List (K × X)) (n : ℕ) → length es ≤ n
+      → find p (values_of (take n es)) ≡ None → None ≡ find p (values_of es)
+  all_missed [] n le none = refl
+  all_missed (e ∷ es) zero le none = absurd (omega (arith, le))
+  all_missed (e ∷ es) (suc n) le none =
+      elim (p e.1) as (λ b. cond b (Some e.1) (find p (values_of (take n es))) ≡ None
+      → None ≡ cond b (Some e.1) (find p (values_of es))) [
+        | true ↦ λ h. absurd (subst (λ o. T (is_some o)) h tt)
+        | false ↦ λ h. all_missed es n (omega (arith, le)) h
+      ] none
 
 -- a test has one answer
 pub clash : (b : Bool) → b ≡ true → b ≡ false → ⊥

@@ -14,6 +14,7 @@ mod linked_rows;
 mod names;
 mod namespaces;
 mod nqn;
+mod ordered_rows;
 mod ports;
 mod subsystems;
 mod values;

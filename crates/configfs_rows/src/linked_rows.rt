@@ -2,15 +2,13 @@
 // links a name, and the lowest free position.
 ghost use Rattle.std.specs.Prelude.{◌≡◌, ◌==◌, ℕ, option_copied};
 ghost use Rattle.std.specs.List.{list_any, find};
-ghost use Rattle.std.specs.BTreeMap as tree;
+ghost use Rattle.std.specs.Map.{values_of};
 ghost use Rattle.std.specs.FinMap as map;
 ghost use Rattle.configfs_rows.specs.Nqns.{name_order};
 ghost use Rattle.configfs_rows.specs.Places.{lowest_free};
 
 use crate::names::Names;
 use crate::nqn::Nqn;
-use std::collections::BTreeMap;
-use std::collections::btree_map::Values;
 
 /// A row with a position, from 0, and with links to names.
 pub(crate) trait LinkedRow {
@@ -26,10 +24,10 @@ pub(crate) trait LinkedRow {
 }
 
 // The row at a position, or `None` exactly where none stands there.
-pub(crate) fn row_at<'a, K, X: LinkedRow>(rows: Values<'a, K, X>, at: u8) -> Option<&'a X>
-    ensures { option_copied result ≡ find (λ x. X.place x == at) rows.entry }
+pub(crate) fn row_at<'a, K, X: LinkedRow>(rows: &'a [(K, X)], at: u8) -> Option<&'a X>
+    ensures { option_copied result ≡ find (λ x. X.place x == at) (values_of rows.now) }
 {
-    for row in rows {
+    for (_, row) in rows {
         if row.place() == at {
             return Some(row);
         }
@@ -38,10 +36,10 @@ pub(crate) fn row_at<'a, K, X: LinkedRow>(rows: Values<'a, K, X>, at: u8) -> Opt
 }
 
 // Whether a row links the name.
-pub(crate) fn some_row_links<K, X: LinkedRow>(rows: Values<'_, K, X>, name: &Nqn) -> bool
-    ensures { result ≡ list_any (λ x. map.contains_key (X.linked x) name.now) rows.entry }
+pub(crate) fn some_row_links<K, X: LinkedRow>(rows: &[(K, X)], name: &Nqn) -> bool
+    ensures { result ≡ list_any (λ x. map.contains_key (X.linked x) name.now) (values_of rows.now) }
 {
-    for row in rows {
+    for (_, row) in rows {
         if row.links().contains(name) {
             return true;
         }
@@ -50,16 +48,14 @@ pub(crate) fn some_row_links<K, X: LinkedRow>(rows: Values<'_, K, X>, name: &Nqn
 }
 
 // The lowest free position of so many.
-pub(crate) fn lowest_place<K: Ord, X: LinkedRow>(rows: &BTreeMap<K, X>, most: u8) -> u8
-    ensures is { result ≡ lowest_free most 0 (λ at. list_any (λ x. X.place x == at)
-        (tree.values rows.now)) }
-    ensures ordered { tree.IsOrdered K.cmp rows.now }
+pub(crate) fn lowest_place<K, X: LinkedRow>(rows: &[(K, X)], most: u8) -> u8
+    ensures { result ≡ lowest_free most 0 (λ at. list_any (λ x. X.place x == at)
+        (values_of rows.now)) }
 {
     for at in 0..most {
-        if row_at(rows.values(), at).is_none() {
+        if row_at(rows, at).is_none() {
             return at;
         }
     }
-    let _ordered = rows.values();
     most
 }

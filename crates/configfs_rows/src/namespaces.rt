@@ -2,13 +2,12 @@ ghost use Rattle.std.specs.Prelude.{◌≡◌, ℕ, Some, None, OnOk, OnErr, opt
 ghost use Rattle.std.specs.Ordering.{nat_cmp};
 ghost use Rattle.std.specs.List.{slice_get};
 ghost use Rattle.std.specs.FinMap as map;
-ghost use Rattle.configfs_rows.specs.Maps.{update_at};
+ghost use Rattle.configfs_rows.specs.Maps.{update_at, IsPlaceOf};
 ghost use Rattle.configfs_rows.specs.Rows.{put_in, identifier_of, fresh_namespace};
 
+use crate::ordered_rows::{search, take_at};
 use mem_bdev::Name;
 use std::alloc::{AllocError, Global};
-use std::collections::BTreeMap;
-use std::collections::btree_map::Iter;
 use std::marker::Model;
 
 /// A namespace with its attributes: the path of its disk (unset at first) with the number of the
@@ -68,6 +67,13 @@ impl NamespaceRow {
         }
     }
 
+    // Makes it as it was made.
+    fn renew(&mut self)
+        ensures { self.new ≡ fresh_namespace }
+    {
+        *self = NamespaceRow::fresh();
+    }
+
     /// One of its identifiers.
     pub fn identifier(&self, which: Identifier) -> &[u8; 16]
         ensures { result.now ≡ identifier_of which self.now }
@@ -95,13 +101,28 @@ impl NamespaceRow {
     }
 }
 
-/// The namespaces of a subsystem by NSID. Contracts see a finite map.
+// Where the namespace with this NSID stands, or where it would. Most configurations number
+// namespaces from 1 on without a gap, so the row is looked for at its number first.
+fn search_nsid(rows: &[(u32, NamespaceRow)], nsid: u32) -> Result<usize, usize>
+    ensures { IsPlaceOf nat_cmp nsid rows.now result }
+{
+    let guess = (nsid as usize).wrapping_sub(1);
+    if let Some(row) = rows.get(guess) {
+        if row.0 == nsid {
+            return Ok(guess);
+        }
+    }
+    search(rows, &nsid)
+}
+
+/// The namespaces of a subsystem in the order of their NSIDs. Contracts see a finite map.
 #[derive(Drop)]
 pub struct Namespaces {
-    rows: BTreeMap<u32, NamespaceRow>,
+    rows: Vec<(u32, NamespaceRow)>,
 }
 
 impl Model for Namespaces {
+    ghost use Rattle.std.specs.Prelude.{IsTrue};
     ghost use Rattle.std.specs.Ordering.{nat_cmp};
     ghost use Rattle.std.specs.FinMap as map;
     ghost use Rattle.std.specs.Coded.{coded_ℕ};
@@ -112,7 +133,9 @@ impl Model for Namespaces {
 
     ghost coded = { map.code coded_ℕ row.the_row.coded };
 
-    ghost view = { λ n. map.from_entries n.rows.entries };
+    ghost view = { λ n. map.from_sorted n.rows.items };
+
+    ghost invariant = { λ n. IsTrue (map.is_sorted nat_cmp n.rows.items) };
 }
 
 impl Namespaces {
@@ -121,22 +144,32 @@ impl Namespaces {
         ensures { result ≡ map.empty }
     {
         Namespaces {
-            rows: BTreeMap::new(alloc),
+            rows: Vec::new(alloc),
         }
+    }
+
+    /// The namespaces with their NSIDs, in rising order.
+    pub fn entries(&self) -> &[(u32, NamespaceRow)]
+        ensures { result.now ≡ map.entries self.now }
+    {
+        &self.rows
     }
 
     /// The namespace with this NSID.
     pub fn get(&self, nsid: u32) -> Option<&NamespaceRow>
         ensures { option_copied result ≡ map.get self.now nsid }
     {
-        self.rows.get(&nsid)
+        match search_nsid(&self.rows, nsid) {
+            Ok(at) => Some(&self.rows[at].1),
+            Err(_) => None,
+        }
     }
 
     /// How many namespaces there are.
     pub fn len(&self) -> usize
         ensures { result ≡ map.len self.now }
     {
-        self.rows.len()
+        self.entries().len()
     }
 
     /// Makes a namespace. On want of memory all is as before.
@@ -144,7 +177,10 @@ impl Namespaces {
         ensures ok { OnOk result (self.new ≡ map.insert self.old nsid fresh_namespace) }
         ensures err { OnErr result (self.new ≡ self.old) }
     {
-        self.rows.insert(nsid, NamespaceRow::fresh())?;
+        match search_nsid(&self.rows, nsid) {
+            Ok(at) => self.rows[at].1.renew(),
+            Err(at) => self.rows.insert(at, (nsid, NamespaceRow::fresh()))?,
+        }
         Ok(())
     }
 
@@ -152,24 +188,18 @@ impl Namespaces {
     pub fn remove(&mut self, nsid: u32)
         ensures { self.new ≡ map.remove self.old nsid }
     {
-        let _ = self.rows.remove(&nsid);
+        if let Ok(at) = search_nsid(&self.rows, nsid) {
+            take_at(&mut self.rows, at);
+        }
     }
 
     /// Puts a value into a namespace, where it is there.
     pub fn put(&mut self, nsid: u32, put: NamespacePut)
         ensures { self.new ≡ update_at self.old nsid (put_in put) }
     {
-        let Some(row) = self.rows.get_mut(&nsid) else {
-            return;
-        };
-        row.put(put);
-    }
-
-    /// The namespaces with their NSIDs, in rising order.
-    pub fn iter(&self) -> Iter<'_, u32, NamespaceRow>
-        ensures { result ≡ map.entries self.now }
-    {
-        self.rows.iter()
+        if let Ok(at) = search_nsid(&self.rows, nsid) {
+            self.rows[at].1.put(put);
+        }
     }
 
     /// The NSID with this number, from 0, in rising order; `None`
@@ -177,6 +207,9 @@ impl Namespaces {
     pub fn nth(&self, n: usize) -> Option<u32>
         ensures { result ≡ slice_get (map.keys self.now) n }
     {
-        self.rows.keys().nth(n).copied()
+        match self.entries().get(n) {
+            Some(row) => Some(row.0),
+            None => None,
+        }
     }
 }

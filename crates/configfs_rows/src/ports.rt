@@ -9,11 +9,12 @@ use crate::limits::MAX_PORTS;
 use crate::linked_rows::{LinkedRow, lowest_place, row_at, some_row_links};
 use crate::names::Names;
 use crate::nqn::Nqn;
+use crate::ordered_rows::{put_row, row_of, search, take_row};
 use mem_bdev::Name;
 use sqe_cqe::Ana;
 use std::alloc::{AllocError, Global};
 use std::collections::BTreeMap;
-use std::collections::btree_map::{Iter, Values};
+use std::collections::btree_map::Iter;
 use std::marker::Model;
 
 /// The ANA groups of a port that are made, with their states. Contracts see a finite map. A
@@ -198,13 +199,14 @@ impl LinkedRow for PortRow {
     }
 }
 
-/// The ports by ID. Contracts see a finite map.
+/// The ports in the order of their IDs. Contracts see a finite map.
 #[derive(Drop)]
 pub struct Ports {
-    rows: BTreeMap<u16, PortRow>,
+    rows: Vec<(u16, PortRow)>,
 }
 
 impl Model for Ports {
+    ghost use Rattle.std.specs.Prelude.{IsTrue};
     ghost use Rattle.std.specs.Ordering.{nat_cmp};
     ghost use Rattle.std.specs.FinMap as map;
     ghost use Rattle.std.specs.Coded.{coded_ℕ};
@@ -215,7 +217,9 @@ impl Model for Ports {
 
     ghost coded = { map.code coded_ℕ row.the_row.coded };
 
-    ghost view = { λ p. map.from_entries p.rows.entries };
+    ghost view = { λ p. map.from_sorted p.rows.items };
+
+    ghost invariant = { λ p. IsTrue (map.is_sorted nat_cmp p.rows.items) };
 }
 
 impl Ports {
@@ -224,7 +228,7 @@ impl Ports {
         ensures { result ≡ map.empty }
     {
         Ports {
-            rows: BTreeMap::new(alloc),
+            rows: Vec::new(alloc),
         }
     }
 
@@ -232,14 +236,14 @@ impl Ports {
     pub fn len(&self) -> usize
         ensures { result ≡ map.len self.now }
     {
-        self.rows.len()
+        self.entries().len()
     }
 
     /// The port of an ID.
     pub fn get(&self, id: u16) -> Option<&PortRow>
         ensures { option_copied result ≡ map.get self.now id }
     {
-        self.rows.get(&id)
+        row_of(&self.rows, &id)
     }
 
     /// Makes a port. On want of memory all is as before.
@@ -247,7 +251,7 @@ impl Ports {
         ensures ok { OnOk result (self.new ≡ map.insert self.old id row) }
         ensures err { OnErr result (self.new ≡ self.old) }
     {
-        self.rows.insert(id, row)?;
+        put_row(&mut self.rows, id, row)?;
         Ok(())
     }
 
@@ -255,17 +259,17 @@ impl Ports {
     pub fn remove(&mut self, id: u16)
         ensures { self.new ≡ map.remove self.old id }
     {
-        let _ = self.rows.remove(&id);
+        take_row(&mut self.rows, &id);
     }
 
     /// Puts an address into a port.
     pub fn put(&mut self, id: u16, address: Address, value: Name)
         ensures { self.new ≡ update_at self.old id (with_address address value) }
     {
-        let Some(row) = self.rows.get_mut(&id) else {
+        let Ok(at) = search(&self.rows, &id) else {
             return;
         };
-        row.put(address, value);
+        self.rows[at].1.put(address, value);
     }
 
     /// Gives a group of a port a state. On want of memory all is as before.
@@ -274,10 +278,10 @@ impl Ports {
         ensures err { OnErr result (self.new ≡ self.old) }
         ensures made { IsTrue (has_group (map.get self.old id) group) → IsOk result }
     {
-        let Some(row) = self.rows.get_mut(&id) else {
+        let Ok(at) = search(&self.rows, &id) else {
             return Ok(());
         };
-        row.groups.put(group, state)?;
+        self.rows[at].1.groups.put(group, state)?;
         Ok(())
     }
 
@@ -285,17 +289,17 @@ impl Ports {
     pub fn remove_group(&mut self, id: u16, group: u32)
         ensures { self.new ≡ update_at self.old id (remove_group group) }
     {
-        let Some(row) = self.rows.get_mut(&id) else {
+        let Ok(at) = search(&self.rows, &id) else {
             return;
         };
-        row.groups.remove(group);
+        self.rows[at].1.groups.remove(group);
     }
 
     /// Whether a port links the subsystem.
     pub fn some_links(&self, name: &Nqn) -> bool
         ensures { result ≡ list_any (λ p. map.contains_key p.links name.now) (map.values self.now) }
     {
-        some_row_links(self.iter(), name)
+        some_row_links(self.entries(), name)
     }
 
     /// Whether a port stands at the position.
@@ -310,21 +314,21 @@ impl Ports {
         ensures { result ≡ lowest_free MAX_PORTS 0 (λ at. list_any (λ p. p.at == at)
             (map.values self.now)) }
     {
-        lowest_place(&self.rows, MAX_PORTS as u8)
+        lowest_place(self.entries(), MAX_PORTS as u8)
     }
 
     /// The port at a position, or `None` exactly where none stands there.
     pub fn at(&self, at: u8) -> Option<&PortRow>
         ensures { option_copied result ≡ find (λ p. p.at == at) (map.values self.now) }
     {
-        row_at(self.iter(), at)
+        row_at(self.entries(), at)
     }
 
-    /// The ports in the order of IDs.
-    pub fn iter(&self) -> Values<'_, u16, PortRow>
-        ensures { result ≡ map.values self.now }
+    /// The ports with their IDs, in rising order of ID.
+    pub fn entries(&self) -> &[(u16, PortRow)]
+        ensures { result.now ≡ map.entries self.now }
     {
-        self.rows.values()
+        &self.rows
     }
 
     /// The port with this number, from 0, in the order of IDs; `None` exactly where there are
@@ -332,7 +336,10 @@ impl Ports {
     pub fn nth(&self, n: usize) -> Option<&PortRow>
         ensures { option_copied result ≡ slice_get (map.values self.now) n }
     {
-        self.iter().nth(n)
+        match self.entries().get(n) {
+            Some((_, row)) => Some(row),
+            None => None,
+        }
     }
 
     /// Makes the link to a subsystem, or takes it away.
@@ -341,10 +348,10 @@ impl Ports {
         ensures err { OnErr result (self.new ≡ self.old) }
         ensures taken { linked ≡ false → IsOk result }
     {
-        let Some(row) = self.rows.get_mut(&id) else {
+        let Ok(at) = search(&self.rows, &id) else {
             return Ok(());
         };
-        row.links.keep_or_take(nqn, linked)?;
+        self.rows[at].1.links.keep_or_take(nqn, linked)?;
         Ok(())
     }
 }

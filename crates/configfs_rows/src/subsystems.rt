@@ -11,10 +11,9 @@ use crate::linked_rows::{LinkedRow, lowest_place, row_at, some_row_links};
 use crate::names::Names;
 use crate::namespaces::{NamespacePut, Namespaces};
 use crate::nqn::Nqn;
+use crate::ordered_rows::{put_row, row_of, search, take_row};
 use mem_bdev::Name;
 use std::alloc::{AllocError, Global};
-use std::collections::BTreeMap;
-use std::collections::btree_map::Values;
 use std::marker::Model;
 
 /// A subsystem: its NQN, its position (the lowest free one as it was made, kept until it is
@@ -91,13 +90,14 @@ impl LinkedRow for SubsystemRow {
     }
 }
 
-/// The subsystems by NQN. Contracts see a finite map.
+/// The subsystems in the order of their NQNs. Contracts see a finite map.
 #[derive(Drop)]
 pub struct Subsystems {
-    rows: BTreeMap<Nqn, SubsystemRow>,
+    rows: Vec<(Nqn, SubsystemRow)>,
 }
 
 impl Model for Subsystems {
+    ghost use Rattle.std.specs.Prelude.{IsTrue};
     ghost use Rattle.std.specs.FinMap as map;
     ghost use Rattle.std.specs.Coded.{coded_ℕ, coded_list};
     ghost use Rattle.configfs_rows.specs.Nqns.{name_order};
@@ -108,7 +108,9 @@ impl Model for Subsystems {
 
     ghost coded = { map.code (coded_list coded_ℕ) row.the_row.coded };
 
-    ghost view = { λ s. map.from_entries s.rows.entries };
+    ghost view = { λ s. map.from_sorted s.rows.items };
+
+    ghost invariant = { λ s. IsTrue (map.is_sorted name_order s.rows.items) };
 }
 
 impl Subsystems {
@@ -117,7 +119,7 @@ impl Subsystems {
         ensures { result ≡ map.empty }
     {
         Subsystems {
-            rows: BTreeMap::new(alloc),
+            rows: Vec::new(alloc),
         }
     }
 
@@ -125,17 +127,17 @@ impl Subsystems {
     pub fn get(&self, name: &Nqn) -> Option<&SubsystemRow>
         ensures { option_copied result ≡ map.get self.now name.now }
     {
-        self.rows.get(name)
+        row_of(&self.rows, name)
     }
 
     /// Puts a value into a namespace of a subsystem.
     pub fn put_namespace(&mut self, name: &Nqn, nsid: u32, put: NamespacePut)
         ensures { self.new ≡ update_at self.old name.now (put_namespace nsid put) }
     {
-        let Some(row) = self.rows.get_mut(name) else {
+        let Ok(at) = search(&self.rows, name) else {
             return;
         };
-        row.namespaces.put(nsid, put);
+        self.rows[at].1.namespaces.put(nsid, put);
     }
 
     /// Makes a namespace, where the subsystem is there. On want of memory all is as before.
@@ -143,10 +145,10 @@ impl Subsystems {
         ensures ok { OnOk result (self.new ≡ update_at self.old name.now (add_namespace nsid)) }
         ensures err { OnErr result (self.new ≡ self.old) }
     {
-        let Some(row) = self.rows.get_mut(name) else {
+        let Ok(at) = search(&self.rows, name) else {
             return Ok(());
         };
-        row.namespaces.add(nsid)?;
+        self.rows[at].1.namespaces.add(nsid)?;
         Ok(())
     }
 
@@ -154,10 +156,10 @@ impl Subsystems {
     pub fn remove_namespace(&mut self, name: &Nqn, nsid: u32)
         ensures { self.new ≡ update_at self.old name.now (remove_namespace nsid) }
     {
-        let Some(row) = self.rows.get_mut(name) else {
+        let Ok(at) = search(&self.rows, name) else {
             return;
         };
-        row.namespaces.remove(nsid);
+        self.rows[at].1.namespaces.remove(nsid);
     }
 
     /// Whether a subsystem allows the host by a link.
@@ -165,14 +167,14 @@ impl Subsystems {
         ensures { result ≡ list_any (λ s. map.contains_key s.allowed_hosts host.now)
             (map.values self.now) }
     {
-        some_row_links(self.iter(), host)
+        some_row_links(self.entries(), host)
     }
 
     /// How many subsystems there are.
     pub fn len(&self) -> usize
         ensures { result ≡ map.len self.now }
     {
-        self.rows.len()
+        self.entries().len()
     }
 
     /// Makes a subsystem. On want of memory all is as before.
@@ -180,7 +182,7 @@ impl Subsystems {
         ensures ok { OnOk result (self.new ≡ map.insert self.old name row) }
         ensures err { OnErr result (self.new ≡ self.old) }
     {
-        self.rows.insert(name, row)?;
+        put_row(&mut self.rows, name, row)?;
         Ok(())
     }
 
@@ -196,38 +198,38 @@ impl Subsystems {
         ensures { result ≡ lowest_free MAX_SUBSYSTEMS 0 (λ at. list_any (λ s. s.at == at)
             (map.values self.now)) }
     {
-        lowest_place(&self.rows, MAX_SUBSYSTEMS as u8)
+        lowest_place(self.entries(), MAX_SUBSYSTEMS as u8)
     }
 
     /// Puts a value into a subsystem, where it is there.
     pub fn put(&mut self, name: &Nqn, put: SubsystemPut)
         ensures { self.new ≡ update_at self.old name.now (put_in_subsystem put) }
     {
-        let Some(row) = self.rows.get_mut(name) else {
+        let Ok(at) = search(&self.rows, name) else {
             return;
         };
-        row.put(put);
+        self.rows[at].1.put(put);
     }
 
     /// Takes a subsystem away.
     pub fn remove(&mut self, name: &Nqn)
         ensures { self.new ≡ map.remove self.old name.now }
     {
-        let _ = self.rows.remove(name);
+        take_row(&mut self.rows, name);
     }
 
     /// The subsystem at a position.
     pub fn at(&self, at: u8) -> Option<&SubsystemRow>
         ensures { option_copied result ≡ find (λ s. s.at == at) (map.values self.now) }
     {
-        row_at(self.iter(), at)
+        row_at(self.entries(), at)
     }
 
-    /// The subsystems in byte order of NQN.
-    pub fn iter(&self) -> Values<'_, Nqn, SubsystemRow>
-        ensures { result ≡ map.values self.now }
+    /// The subsystems with their NQNs, in byte order of NQN.
+    pub fn entries(&self) -> &[(Nqn, SubsystemRow)]
+        ensures { result.now ≡ map.entries self.now }
     {
-        self.rows.values()
+        &self.rows
     }
 
     /// The subsystem with this number, from 0, in byte order of NQN; `None` exactly where there
@@ -235,7 +237,10 @@ impl Subsystems {
     pub fn nth(&self, n: usize) -> Option<&SubsystemRow>
         ensures { option_copied result ≡ slice_get (map.values self.now) n }
     {
-        self.iter().nth(n)
+        match self.entries().get(n) {
+            Some((_, row)) => Some(row),
+            None => None,
+        }
     }
 
     /// Makes the link to a host, or takes it away.
@@ -245,10 +250,10 @@ impl Subsystems {
         ensures err { OnErr result (self.new ≡ self.old) }
         ensures taken { linked ≡ false → IsOk result }
     {
-        let Some(row) = self.rows.get_mut(name) else {
+        let Ok(at) = search(&self.rows, name) else {
             return Ok(());
         };
-        row.allowed_hosts.keep_or_take(host, linked)?;
+        self.rows[at].1.allowed_hosts.keep_or_take(host, linked)?;
         Ok(())
     }
 }

@@ -73,6 +73,9 @@ abbrev pub subsystem_shows : ℕ → SubsystemRow → Bool
 subsystem_shows disk s = list_any (λ (e : ℕ × NamespaceRow). shows disk e.1)
     (maps.entries s.namespaces)
 
+abbrev pub entry_shows : ℕ → List ℕ × SubsystemRow → Bool
+entry_shows disk e = subsystem_shows disk e.1
+
 -- an enabled namespace is on the disk
 unfoldable pub is_shown : Configuration → ℕ → Bool
 is_shown t disk = list_any (subsystem_shows disk) (maps.values t.settings.subsystems)

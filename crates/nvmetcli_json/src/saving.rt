@@ -102,7 +102,7 @@ fn namespaces(alloc: Global, rows: &Namespaces) -> Result<Value, AllocError>
     ensures { IfOk result (λ v. view v ≡ namespaces_data rows.now) }
 {
     let mut shown = Vec::new(alloc);
-    for (nsid, row) in rows.iter() {
+    for (nsid, row) in rows.entries() {
         let value = namespace(alloc, *nsid, row)?;
         shown.push(value)?;
     }
@@ -227,7 +227,7 @@ fn ports(alloc: Global, rows: &Ports) -> Result<Value, AllocError>
     ensures ids { IfOk result (λ _. list_all has_short_id (maps.values rows.now) ≡ true) }
 {
     let mut shown = Vec::new(alloc);
-    for row in rows.iter() {
+    for (_, row) in rows.entries() {
         let value = port(alloc, row)?;
         shown.push(value)?;
     }
@@ -240,7 +240,7 @@ fn subsystems(alloc: Global, rows: &Subsystems) -> Result<Value, AllocError>
     ensures { IfOk result (λ v. view v ≡ list_of subsystem_data (maps.values rows.now)) }
 {
     let mut shown = Vec::new(alloc);
-    for row in rows.iter() {
+    for (_, row) in rows.entries() {
         let value = subsystem(alloc, row)?;
         shown.push(value)?;
     }

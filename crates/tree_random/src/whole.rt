@@ -96,7 +96,7 @@ fn check_spaces(rt: &impl Abort, tree: &Tree, row: &SubsystemRow, spaces: &[Slow
         check_space(rt, tree, row, space);
     }
     let mut last = 0;
-    for (nsid, _) in row.namespaces.iter() {
+    for (nsid, _) in row.namespaces.entries() {
         assert!(rt; last < *nsid, "NSIDs rise");
         last = *nsid;
     }
@@ -125,7 +125,7 @@ fn check_subs(rt: &impl Abort, alloc: Global, tree: &Tree, slow: &Slow) {
         check_sub(rt, alloc, tree, slow, sub);
     }
     let mut last: &[u8] = b"";
-    for row in tree.subsystems().iter() {
+    for (_, row) in tree.subsystems().entries() {
         assert!(rt; last < row.nqn.as_bytes(), "NQNs rise");
         last = row.nqn.as_bytes();
     }
@@ -180,7 +180,7 @@ fn check_ports(rt: &impl Abort, alloc: Global, tree: &Tree, slow: &Slow) {
         check_port(rt, alloc, tree, slow, port);
     }
     let mut last = None;
-    for row in tree.ports().iter() {
+    for (_, row) in tree.ports().entries() {
         assert!(rt; last < Some(row.id), "IDs rise");
         last = Some(row.id);
     }

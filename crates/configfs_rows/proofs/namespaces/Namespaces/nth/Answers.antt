@@ -1,12 +1,12 @@
-use Rattle.std.proofs.Common.{◌∙◌}
-use Rattle.std.specs.Cmp.{nat_cmp_total}
-use Rattle.configfs_rows.proofs.Seen.{seen_keys}
-use Rattle.configfs_rows.proofs.Scans.{nth_shown}
+use Rattle.configfs_rows.proofs.SortedRows.{nth_there, nth_past}
 use Rattle.configfs_rows.proofs.namespaces.Namespaces.nth.Goals as goal
 
-pub returns : goal.returns
-returns c = rw (
-  ← c.self.view_is,
-  seen_keys nat_cmp_total c.self.inside.rows c.keys.ensures.ordered,
-  ← c.keys.ensures.rest,
-) (c.copied.ensures ∙ nth_shown _ _ _ _ c.nth.ensures.ran)
+pub returns-in-Some : goal.returns-in-Some
+returns-in-Some c =
+    let read = c.in-Some.ensures.lookup in
+    rw (← c.entries.ensures) (nth_there (λ e. e.0) c.entries.result.now c.args.n c.in-Some.row.now
+    read.0 read.1)
+
+pub returns-in-None : goal.returns-in-None
+returns-in-None c = rw (← c.entries.ensures) (nth_past (λ e. e.0) c.entries.result.now c.args.n
+    c.in-None.ensures.lookup.0)

@@ -1,7 +1,8 @@
-use Rattle.std.specs.Cmp.{nat_cmp_total}
-use Rattle.configfs_rows.proofs.Seen.{seen_len}
+use Rattle.std.proofs.Common.{List, ℕ, length, sym, ap, ◌∙◌}
+use Rattle.std.specs.FinMap as map
+use Rattle.configfs_rows.specs.declared.ports.PortRow.{PortRow}
 use Rattle.configfs_rows.proofs.ports.Ports.len.Goals as goal
 
 pub returns : goal.returns
-returns c = rw (← c.self.view_is, seen_len nat_cmp_total c.self.inside.rows c.len.ensures.ordered)
-    c.len.ensures.len
+returns c = ap (λ (es : List (ℕ × PortRow)). length es) c.entries.ensures
+    ∙ sym (map.len-entries _)

@@ -1,45 +1,60 @@
-use Rattle.std.proofs.Common.{◌≡◌, false, Some, refl, ap, sym, ◌∙◌}
+use Rattle.std.proofs.Common.{◌≡◌, ℕ, false, Some, Ok, Err, refl, ap, sym, subst, ◌∙◌}
 use Rattle.std.proofs.lemmas.Bool.{both_ways}
 use Rattle.std.specs.FinMap as map
+use Rattle.configfs_rows.specs.declared.ports.PortRow.{PortRow}
 use Rattle.std.specs.Cmp.{nat_cmp_total}
-use Rattle.std.specs.FinMap.{nat_cmp-IsAntisymmetric}
-use Rattle.configfs_rows.proofs.Seen.{seen_get, seen_update, seen_missing, seen_same, on_err}
+use Rattle.std.specs.Ordering.{nat_cmp}
+use Rattle.configfs_rows.specs.Maps.{IsPlaceOf}
 use Rattle.configfs_rows.specs.Ports.{put_group, has_group}
+use Rattle.configfs_rows.proofs.SortedRows.{get_seen, row_there, put_rises, write_puts, write_seen, nothing_written}
 use Rattle.configfs_rows.proofs.ports.Ports.put_group.Goals as goal
 
+pub invariant_of-self : goal.invariant_of-self
+invariant_of-self c =
+    let place = subst (λ l. IsPlaceOf nat_cmp c.args.id l (Ok c.in-Ok.at))
+    c.deref.ensures.value c.in-Ok.ensures in
+    let d = c.index_mut.result.now in
+    let es = c.self.inside.rows.items in
+    put_rises nat_cmp_total es c.self.invariant c.args.id (record d.1 { groups = c.put.new.self }) _
+    (write_puts nat_cmp_total es c.self.invariant c.args.id c.in-Ok.at d
+    (record d.1 { groups = c.put.new.self }) place c.index_mut.ensures.value)
+
+pub invariant_of-self-2 : goal.invariant_of-self-2
+invariant_of-self-2 c =
+    let place = subst (λ l. IsPlaceOf nat_cmp c.args.id l (Ok c.in-Ok.at))
+    c.deref.ensures.value c.in-Ok.ensures in
+    let d = c.index_mut.result.now in
+    let es = c.self.inside.rows.items in
+    put_rises nat_cmp_total es c.self.invariant c.args.id (record d.1 { groups = c.put.new.self }) _
+    (write_puts nat_cmp_total es c.self.invariant c.args.id c.in-Ok.at d
+    (record d.1 { groups = c.put.new.self }) place c.index_mut.ensures.value)
+
 pub returns-in_default-clause-ok : goal.returns-in_default-clause-ok
-returns-in_default-clause-ok c = rw (← c.self.view_is) (seen_missing nat_cmp_total
-    c.self.inside.rows c.get_mut.follows.lender-at-none c.args.id
-    (put_group c.args.group c.args.state) (rw c.in_default.is at c.get_mut.ensures.value)
-    c.get_mut.follows.holds-at-none)
+returns-in_default-clause-ok c =
+    let place = subst (λ l. IsPlaceOf nat_cmp c.args.id l (Err c.in_default.field-0))
+    c.deref.ensures.value c.in_default.ensures in
+    rw (← c.self.view_is) (nothing_written nat_cmp_total c.self.inside.rows.items
+    c.self.invariant c.args.id c.in_default.field-0 (put_group c.args.group c.args.state) place)
 
 pub returns-clause-ok : goal.returns-clause-ok
 returns-clause-ok c =
-    let after = record c.in-Some.row.now { groups = c.put.new.self } in
-    rw (← c.self.view_is) (seen_update nat_cmp_total nat_cmp-IsAntisymmetric c.self.inside.rows
-    (c.get_mut.follows.lender after) c.args.id (put_group c.args.group c.args.state)
-    c.in-Some.row.now after (rw c.in-Some.is at c.get_mut.ensures.value)
-    (c.get_mut.follows.holds after).3 (ap (λ g. record c.in-Some.row.now {
-      groups =
-          g;
-    }) c.in_ok-put.ensures.ok))
-
-pub returns-in_err-put-clause-err : goal.returns-in_err-put-clause-err
-returns-in_err-put-clause-err c =
-    let after = record c.in-Some.row.now { groups = c.put.new.self } in
-    on_err c.from_residual.result _ (rw (← c.self.view_is) (seen_same nat_cmp_total
-    nat_cmp-IsAntisymmetric c.self.inside.rows (c.get_mut.follows.lender after) c.args.id
-    c.in-Some.row.now after (rw c.in-Some.is at c.get_mut.ensures.value)
-    (c.get_mut.follows.holds after).3 (ap (λ g. record c.in-Some.row.now {
-      groups =
-          g;
-    }) c.in_err-put.ensures.err)))
+    let place = subst (λ l. IsPlaceOf nat_cmp c.args.id l (Ok c.in-Ok.at))
+    c.deref.ensures.value c.in-Ok.ensures in
+    let d = c.index_mut.result.now in
+    let es = c.self.inside.rows.items in
+    rw (← c.self.view_is) (write_seen nat_cmp_total es c.self.invariant c.args.id c.in-Ok.at d
+    (put_group c.args.group c.args.state) (record d.1 { groups = c.put.new.self }) place c.index_mut.ensures.value
+    (ap (λ x. record d.1 { groups = x }) c.in_ok-put.ensures.ok))
 
 -- a group that is made takes no memory
 pub returns-in_err-put-clause-made : goal.returns-in_err-put-clause-made
 returns-in_err-put-clause-made c = λ made.
-    let found : map.get c.args.self.now c.args.id ≡ Some c.in-Some.row.now =
-    rw (← c.self.view_is) (seen_get nat_cmp_total c.self.inside.rows c.args.id
-    ∙ sym (rw c.in-Some.is at c.get_mut.ensures.value)) in
+    let place = subst (λ l. IsPlaceOf nat_cmp c.args.id l (Ok c.in-Ok.at)) c.deref.ensures.value
+    c.in-Ok.ensures in
+    let es = c.self.inside.rows.items in
+    let found : map.get c.args.self.now c.args.id ≡ Some c.index_mut.result.now.1 =
+    rw (← c.self.view_is) (get_seen nat_cmp_total es c.self.invariant c.args.id
+    ∙ row_there nat_cmp_total es c.self.invariant c.args.id c.in-Ok.at c.index_mut.result.now place
+    ∙ ap (λ (e : ℕ × PortRow). Some e.1) (sym c.index_mut.ensures.value)) in
     absurd (both_ways false refl (c.in_err-put.ensures.made (ap (λ o. has_group o c.args.group)
     (sym found) ∙ made)))

@@ -1,19 +1,34 @@
-use Rattle.std.proofs.Common.{ap}
+use Rattle.std.proofs.Common.{Ok, Err, ap, subst}
 use Rattle.std.specs.Cmp.{nat_cmp_total}
-use Rattle.std.specs.FinMap.{nat_cmp-IsAntisymmetric}
-use Rattle.configfs_rows.proofs.Seen.{seen_update, seen_missing}
+use Rattle.std.specs.Ordering.{nat_cmp}
+use Rattle.configfs_rows.specs.Maps.{IsPlaceOf}
 use Rattle.configfs_rows.specs.Ports.{remove_group}
+use Rattle.configfs_rows.proofs.SortedRows.{put_rises, write_puts, write_seen, nothing_written}
 use Rattle.configfs_rows.proofs.ports.Ports.remove_group.Goals as goal
 
+pub invariant_of-self : goal.invariant_of-self
+invariant_of-self c =
+    let place = subst (λ l. IsPlaceOf nat_cmp c.args.id l (Ok c.in-Ok.at))
+    c.deref.ensures.value c.in-Ok.ensures in
+    let d = c.index_mut.result.now in
+    let es = c.self.inside.rows.items in
+    put_rises nat_cmp_total es c.self.invariant c.args.id (record d.1 { groups = c.remove.new.self }) _
+    (write_puts nat_cmp_total es c.self.invariant c.args.id c.in-Ok.at d
+    (record d.1 { groups = c.remove.new.self }) place c.index_mut.ensures.value)
+
 pub returns-in_default : goal.returns-in_default
-returns-in_default c = rw (← c.self.view_is) (seen_missing nat_cmp_total c.self.inside.rows
-    c.get_mut.follows.lender-at-none c.args.id (remove_group c.args.group)
-    (rw c.in_default.is at c.get_mut.ensures.value) c.get_mut.follows.holds-at-none)
+returns-in_default c =
+    let place = subst (λ l. IsPlaceOf nat_cmp c.args.id l (Err c.in_default.field-0))
+    c.deref.ensures.value c.in_default.ensures in
+    rw (← c.self.view_is) (nothing_written nat_cmp_total c.self.inside.rows.items
+    c.self.invariant c.args.id c.in_default.field-0 (remove_group c.args.group) place)
 
 pub returns : goal.returns
 returns c =
-    let after = record c.in-Some.row.now { groups = c.remove.new.self } in
-    rw (← c.self.view_is) (seen_update nat_cmp_total nat_cmp-IsAntisymmetric c.self.inside.rows
-    (c.get_mut.follows.lender after) c.args.id (remove_group c.args.group) c.in-Some.row.now
-    after (rw c.in-Some.is at c.get_mut.ensures.value) (c.get_mut.follows.holds after).3
-    (ap (λ g. record c.in-Some.row.now { groups = g }) c.remove.ensures))
+    let place = subst (λ l. IsPlaceOf nat_cmp c.args.id l (Ok c.in-Ok.at))
+    c.deref.ensures.value c.in-Ok.ensures in
+    let d = c.index_mut.result.now in
+    let es = c.self.inside.rows.items in
+    rw (← c.self.view_is) (write_seen nat_cmp_total es c.self.invariant c.args.id c.in-Ok.at d
+    (remove_group c.args.group) (record d.1 { groups = c.remove.new.self }) place c.index_mut.ensures.value
+    (ap (λ x. record d.1 { groups = x }) c.remove.ensures))

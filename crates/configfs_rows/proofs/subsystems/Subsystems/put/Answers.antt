@@ -1,19 +1,34 @@
+use Rattle.std.proofs.Common.{Ok, Err, subst}
 use Rattle.std.specs.Cmp.Lexicographic.{nat_list_cmp_total}
-use Rattle.std.specs.FinMap.{nat_cmp-IsAntisymmetric, slice_cmp-IsAntisymmetric}
-use Rattle.configfs_rows.proofs.Seen.{seen_update, seen_missing}
+use Rattle.configfs_rows.specs.Nqns.{name_order}
+use Rattle.configfs_rows.specs.Maps.{IsPlaceOf}
 use Rattle.configfs_rows.specs.Subsystems.{put_in_subsystem}
+use Rattle.configfs_rows.proofs.SortedRows.{put_rises, write_puts, write_seen, nothing_written}
 use Rattle.configfs_rows.proofs.subsystems.Subsystems.put.Goals as goal
 
+pub invariant_of-self : goal.invariant_of-self
+invariant_of-self c =
+    let place = subst (λ l. IsPlaceOf name_order c.args.name.now l (Ok c.in-Ok.at))
+    c.deref.ensures.value c.in-Ok.ensures in
+    let d = c.index_mut.result.now in
+    let es = c.self.inside.rows.items in
+    put_rises nat_list_cmp_total es c.self.invariant c.args.name.now c.put.new.self _
+    (write_puts nat_list_cmp_total es c.self.invariant c.args.name.now c.in-Ok.at d
+    c.put.new.self place c.index_mut.ensures.value)
+
 pub returns-in_default : goal.returns-in_default
-returns-in_default c = rw (← c.self.view_is) (seen_missing nat_list_cmp_total c.self.inside.rows
-    c.get_mut.follows.lender-at-none c.args.name.now (put_in_subsystem c.args.put)
-    (rw c.in_default.is at c.get_mut.ensures.value) c.get_mut.follows.holds-at-none)
+returns-in_default c =
+    let place = subst (λ l. IsPlaceOf name_order c.args.name.now l (Err c.in_default.field-0))
+    c.deref.ensures.value c.in_default.ensures in
+    rw (← c.self.view_is) (nothing_written nat_list_cmp_total c.self.inside.rows.items
+    c.self.invariant c.args.name.now c.in_default.field-0 (put_in_subsystem c.args.put) place)
 
 pub returns : goal.returns
 returns c =
-    let after = c.put.new.self in
-    rw (← c.self.view_is) (seen_update nat_list_cmp_total (slice_cmp-IsAntisymmetric
-    nat_cmp-IsAntisymmetric) c.self.inside.rows (c.get_mut.follows.lender after) c.args.name.now
-    (put_in_subsystem c.args.put) c.in-Some.row.now after
-    (rw c.in-Some.is at c.get_mut.ensures.value) (c.get_mut.follows.holds after).3
+    let place = subst (λ l. IsPlaceOf name_order c.args.name.now l (Ok c.in-Ok.at))
+    c.deref.ensures.value c.in-Ok.ensures in
+    let d = c.index_mut.result.now in
+    let es = c.self.inside.rows.items in
+    rw (← c.self.view_is) (write_seen nat_list_cmp_total es c.self.invariant c.args.name.now c.in-Ok.at d
+    (put_in_subsystem c.args.put) c.put.new.self place c.index_mut.ensures.value
     c.put.ensures)

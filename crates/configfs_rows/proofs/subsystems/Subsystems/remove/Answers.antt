@@ -1,9 +1,12 @@
 use Rattle.std.specs.Cmp.Lexicographic.{nat_list_cmp_total}
 use Rattle.std.specs.FinMap.{nat_cmp-IsAntisymmetric, slice_cmp-IsAntisymmetric}
-use Rattle.configfs_rows.proofs.Seen.{seen_remove}
+use Rattle.configfs_rows.proofs.SortedRows.{taken_rises, taken_seen}
 use Rattle.configfs_rows.proofs.subsystems.Subsystems.remove.Goals as goal
 
+pub invariant_of-self : goal.invariant_of-self
+invariant_of-self c = taken_rises nat_list_cmp_total c.self.inside.rows.items c.self.invariant c.args.name.now _
+    (c.take_row.ensures c.self.invariant)
+
 pub returns : goal.returns
-returns c = rw (← c.self.view_is) (seen_remove nat_list_cmp_total
-    (slice_cmp-IsAntisymmetric nat_cmp-IsAntisymmetric) c.self.inside.rows c.remove.new.self _
-    c.remove.ensures.updates)
+returns c = rw (← c.self.view_is) (taken_seen nat_list_cmp_total c.self.inside.rows.items c.self.invariant
+    (slice_cmp-IsAntisymmetric nat_cmp-IsAntisymmetric) c.args.name.now _ (c.take_row.ensures c.self.invariant))
