@@ -75,6 +75,13 @@ module _ (p : Command → Bool) where
       ap (λ (x : Command). Some x) is ∙ (sym (slice_get-get_or held i h w.within)
       ∙ (ap (slice_get held) (sym w.is) ∙ sym (find_at p held)))
 
+  pub read_found : (held : List Command) (i : ℕ) (d : Command) → position p held ≡ Some i
+      → Some (get_or held i d) ≡ find p held
+  read_found held i d e =
+      let w = position_is held i e in
+      sym (slice_get-get_or held i d w.within)
+      ∙ (ap (slice_get held) (sym w.is) ∙ sym (find_at p held))
+
   pub one_taken : (held : List Command) (i : ℕ) → position p held ≡ Some i
       → remove held i ≡ without p held
   one_taken held i e = ap (λ (n : ℕ). remove held n) (sym (position_is held i e).is)

@@ -1,7 +1,7 @@
 // The held commands, and the work of one on its disk.
 ghost use Rattle.std.specs.Prelude.{◌≡◌, ◌<◌, ◌≤◌, ◌+◌, find, position, length, map, slice_get, is_some, IfSome, IsTrue};
-ghost use Rattle.std.specs.List.{list_any};
-ghost use Rattle.std.specs.Vec.{vec_capacity};
+ghost use Rattle.std.specs.List.{list_any, remove, slice_index_or};
+ghost use Rattle.std.specs.Vec.{vec_capacity, vec_len};
 ghost use Rattle.mem_bdev.specs.Texts.{HasRoom, appended};
 ghost use Rattle.io_commands.specs.Jobs.{disk_of};
 ghost use Rattle.tree_target.specs.Kept.{FitsOn, HasDataOn, given_on, is_of};
@@ -40,6 +40,8 @@ pub(crate) fn is_free(held: &[Command], disk: Option<u8>) -> bool
     }
 }
 
+// Inlined: an Execute looks for its command four times.
+#[inline(always)]
 fn position_of(held: &[Command], queue: u32, number: u32) -> Option<usize>
     ensures { result ≡ position (is_command queue number) held.now }
 {
@@ -48,18 +50,13 @@ fn position_of(held: &[Command], queue: u32, number: u32) -> Option<usize>
 }
 
 // The command of a capsule, where it is held.
+#[inline(always)]
 pub(crate) fn find_command(held: &[Command], queue: u32, number: u32) -> Option<Command>
     ensures { result ≡ find (is_command queue number) held.now }
 {
-    match held {
-        [] => None,
-        [h, rest @ ..] => {
-            if h.queue == queue && h.number == number {
-                Some(*h)
-            } else {
-                find_command(rest, queue, number)
-            }
-        }
+    match position_of(held, queue, number) {
+        None => None,
+        Some(at) => Some(held[at]),
     }
 }
 
@@ -79,6 +76,22 @@ pub(crate) fn command_of_queue(held: &[Command], queue: u32) -> Option<Command>
     }
 }
 
+// Takes the command at an index out. That is mostly the last one, behind which none has to move.
+fn take_out(held: &mut Vec<Command>, at: usize) -> Command
+    requires { at < vec_len held.old }
+    ensures value { result ≡ slice_index_or held.old.items at result }
+    ensures items { held.new.items ≡ remove held.old.items at }
+    ensures capacity { vec_capacity held.new ≡ vec_capacity held.old }
+{
+    let command = held[at];
+    if at + 1 == held.len() {
+        let _ = held.pop();
+    } else {
+        let _ = held.remove(at);
+    }
+    command
+}
+
 // Takes the command of a capsule out, where it is held.
 pub(crate) fn take_command(held: &mut Vec<Command>, queue: u32, number: u32) -> Option<Command>
     ensures command { result ≡ find (is_command queue number) held.old.items }
@@ -87,7 +100,7 @@ pub(crate) fn take_command(held: &mut Vec<Command>, queue: u32, number: u32) -> 
 {
     match position_of(held, queue, number) {
         None => None,
-        Some(at) => Some(held.remove(at)),
+        Some(at) => Some(take_out(held, at)),
     }
 }
 

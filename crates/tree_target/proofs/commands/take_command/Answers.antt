@@ -25,12 +25,12 @@ returns-in-Some-clause-command c =
     c.in-Some.at = ap (λ (x : List Command). position (is_command c.args.queue c.args.number)
     x) (sym c.deref.ensures.value) ∙ sym c.in-Some.ensures in
     one_found (is_command c.args.queue c.args.number) c.args.held.now.items c.in-Some.at
-    c.remove.result e c.remove.ensures.value
+    c.take_out.result e c.take_out.ensures.value
 
 pub returns-in-Some-clause-rest : goal.returns-in-Some-clause-rest
 returns-in-Some-clause-rest c =
     let e : position (is_command c.args.queue c.args.number) c.args.held.now.items ≡ Some
     c.in-Some.at = ap (λ (x : List Command). position (is_command c.args.queue c.args.number)
     x) (sym c.deref.ensures.value) ∙ sym c.in-Some.ensures in
-    c.remove.ensures.items ∙ one_taken (is_command c.args.queue c.args.number)
+    c.take_out.ensures.items ∙ one_taken (is_command c.args.queue c.args.number)
     c.args.held.now.items c.in-Some.at e
