@@ -1,21 +1,21 @@
 // The calls of one queue.
-ghost use Rattle.std.specs.Prelude.{◌≡◌, ◌≤◌, ◌<◌, ◌+◌, ◌*◌, ◌^◌, ◌≢◌, [], IsTrue, true, false, length, List, ℕ};
+ghost use Rattle.std.specs.Prelude.{◌≡◌, ◌≤◌, ◌<◌, ◌+◌, ◌*◌, ◌^◌, ◌++◌, ◌≢◌, [], IsTrue, true, false, length, List, ℕ};
 ghost use Rattle.mem_bdev.specs.Texts.{HasRoom, appended};
 ghost use Rattle.mem_bdev.specs.declared.limits.TheConstants.{MAX_TRANSFER};
 ghost use Rattle.sqe_cqe.specs.Sqe.{direction_of, host_len, payload_len};
 ghost use Rattle.sqe_cqe.specs.declared.codes.TheConstants.{FABRICS};
-ghost use Rattle.run_records.specs.Records.{record_bytes};
+ghost use Rattle.run_records.specs.Records.{head_bytes, record_bytes};
 ghost use Rattle.plan_files.specs.Rooms.{capsule_room};
 ghost use Rattle.tree_target.specs.Kept.{HasHeldData, HasQueue, IsHolding, IsIdle, LeavesOthers, given_room, held_bytes, held_len, holds, is_admin_in, is_poll_reply};
 ghost use Rattle.tree_target.specs.Model.{Submit, Execute, Poll, Control};
 ghost use Rattle.tree_target.specs.Stands.{Simulates};
 ghost use Rattle.run_transcript.specs.Printing.{head_of};
-ghost use Rattle.run_serving.specs.Goes.{ServesExecute, ServesFinal, ServesOne, ServesPoll, ServesSubmit, ServesThrough, SubmitsInto};
+ghost use Rattle.run_serving.specs.Goes.{ServesFinal, ServesHeld, ServesOne, ServesPoll, ServesThrough, SubmitsInto};
 ghost use Rattle.run_serving.specs.Prints.{Adds};
 
 use crate::output::{Output, head};
 use mem_bdev::Buffer;
-use run_records::{HEAD_BYTES, Kind, write_head};
+use run_records::{HEAD_BYTES, Head, Kind, write_head};
 use sqe_cqe::{FABRICS, Sqe};
 use tree_target::{Reply, Target};
 
@@ -47,8 +47,21 @@ pub(crate) fn control_one(
     output.add(place, Kind::Control, number, &reply);
 }
 
-// Executes the command that is held, and appends its record: the head, which the held command
-// tells, and behind it what a Read reads, straight from the disk. Tells how many bytes that were.
+// The heads of two records, one behind the other.
+#[inline(always)]
+fn both_heads(first: &Head, second: &Head) -> [u8; 64]
+    ensures { result ≡ head_bytes first.now ++ head_bytes second.now }
+{
+    let mut bytes = [0; 64];
+    bytes[..HEAD_BYTES].copy_from_slice(&write_head(first));
+    bytes[HEAD_BYTES..].copy_from_slice(&write_head(second));
+    bytes
+}
+
+// Executes the command that is held, and appends two records: that of the submit, and that of the
+// execute, whose head the held command tells, with what a Read reads behind it, straight from the
+// disk. Tells how many bytes that were. Both heads are put at once: an append of 32 bytes costs 73
+// instructions.
 fn execute_into(
     target: &mut Target,
     queue: u32,
@@ -59,7 +72,8 @@ fn execute_into(
 ) -> (Reply, u32)
     requires held { IsTrue (holds target.old queue number) }
     requires data { HasHeldData target.old queue number (length payload.now) }
-    requires room { HasRoom to.old (HEAD_BYTES + held_len target.old queue number) }
+    requires place { place + 1 < 2 ^ 32 }
+    requires room { HasRoom to.old (HEAD_BYTES + (HEAD_BYTES + held_len target.old queue number)) }
     ensures idle { IsIdle target.new queue }
     ensures bindings { target.new.bindings ≡ target.old.bindings }
     ensures others { LeavesOthers queue target.old target.new }
@@ -67,20 +81,23 @@ fn execute_into(
         (held_bytes target.old queue number) target.new }
     ensures given { result.1 ≡ length (held_bytes target.old queue number) }
     ensures small { result.1 ≡ held_len target.old queue number }
-    ensures appends { to.new ≡ appended to.old
-        (record_bytes (head_of place Kind.Execute number result.0 result.1)
+    ensures appends { to.new ≡ appended (appended to.old
+        (record_bytes (head_of place Kind.Submit number Reply.Held 0) []))
+        (record_bytes (head_of (place + 1) Kind.Execute number result.0 result.1)
         (held_bytes target.old queue number)) }
     ensures len { length to.new.bytes ≡ length to.old.bytes
-        + (HEAD_BYTES + held_len target.old queue number) }
+        + (HEAD_BYTES + (HEAD_BYTES + held_len target.old queue number)) }
 {
     let reply = target.held_reply(queue, number);
     let given = target.held_len(queue, number);
-    to.put(&write_head(&head(place, Kind::Execute, number, &reply, given)));
+    let submitted = head(place, Kind::Submit, number, &Reply::Held, 0);
+    let executed = head(place + 1, Kind::Execute, number, &reply, given);
+    to.put(&both_heads(&submitted, &executed));
     let reply = target.execute(queue, number, payload, to);
     (reply, given)
 }
 
-// Executes the command that is held.
+// Executes the command that was held at a place, and records both.
 fn execute_one(
     target: &mut Target,
     queue: u32,
@@ -93,18 +110,21 @@ fn execute_one(
     requires data { HasHeldData target.old queue number (length payload.now) }
     requires short { held_len target.old queue number ≤ MAX_TRANSFER }
     requires payload { length payload.now < 2 ^ 32 }
-    requires few { output.old.calls < 4294967295 }
-    requires room { HasRoom output.old.records (HEAD_BYTES + held_len target.old queue number) }
+    requires place { place + 1 < 2 ^ 32 }
+    requires few { output.old.calls + 1 < 4294967295 }
+    requires room { HasRoom output.old.records (HEAD_BYTES
+        + (HEAD_BYTES + held_len target.old queue number)) }
     ensures idle { IsIdle target.new queue }
     ensures bindings { target.new.bindings ≡ target.old.bindings }
     ensures others { LeavesOthers queue target.old target.new }
-    ensures calls { output.new.calls ≡ output.old.calls + 1 }
-    ensures len { length output.new.records.bytes ≡
-        length output.old.records.bytes + (HEAD_BYTES + held_len target.old queue number) }
+    ensures calls { output.new.calls ≡ output.old.calls + 1 + 1 }
+    ensures len { length output.new.records.bytes ≡ length output.old.records.bytes
+        + (HEAD_BYTES + (HEAD_BYTES + held_len target.old queue number)) }
     ensures room { output.new.records.room ≡ output.old.records.room }
-    ensures serves { ServesExecute queue number payload.now target.old output.old place target.new
-        output.new (place + 1) }
+    ensures serves { ServesHeld queue number payload.now target.old output.old place target.new
+        output.new (place + 1 + 1) }
 {
+    output.count(Kind::Submit, &Reply::Held, 0, 0);
     let (reply, given) = execute_into(target, queue, number, payload, place, &mut output.records);
     output.count(Kind::Execute, &reply, payload.len(), given as usize);
 }
@@ -122,45 +142,6 @@ fn was_held(reply: &Reply) -> bool
         | Reply::Errno(_)
         | Reply::Ended => false,
     }
-}
-
-// Submits a command of a queue that isn't a connected admin queue. The reply says whether it is
-// held.
-fn submit_one(
-    target: &mut Target,
-    queue: u32,
-    number: u32,
-    entry: &Sqe,
-    place: u32,
-    output: &mut Output,
-) -> Reply
-    requires queue { HasQueue target.old queue }
-    requires not_admin { is_admin_in target.old queue ≡ false }
-    requires idle { IsIdle target.old queue }
-    requires opcode { entry.now.opcode ≢ FABRICS }
-    requires few { output.old.calls < 4294967295 }
-    requires room { HasRoom output.old.records HEAD_BYTES }
-    ensures held { result ≡ Reply.Held →
-        IsHolding target.new queue number (payload_len entry.now) (host_len entry.now) }
-    ensures idle { result ≢ Reply.Held → IsIdle target.new queue }
-    ensures bindings { target.new.bindings ≡ target.old.bindings }
-    ensures others { LeavesOthers queue target.old target.new }
-    ensures calls { output.new.calls ≡ output.old.calls + 1 }
-    ensures len { length output.new.records.bytes ≡ length output.old.records.bytes + HEAD_BYTES }
-    ensures room { output.new.records.room ≡ output.old.records.room }
-    ensures serves { ServesSubmit queue number entry.now result target.old output.old place
-        target.new output.new (place + 1) }
-{
-    let reply = target.submit(queue, number, entry);
-    let is_held = was_held(&reply);
-    // The two are apart, since the record of a held command is known but for its place and number:
-    // 38 instructions less a command.
-    if is_held {
-        output.add(place, Kind::Submit, number, &Reply::Held);
-    } else {
-        output.add(place, Kind::Submit, number, &reply);
-    }
-    reply
 }
 
 // Serves a command of a queue that isn't a connected admin queue. Gives the next place.
@@ -192,11 +173,12 @@ fn command_one(
     ensures serves { ServesOne queue number entry.now payload.now target.old output.old place
         target.new output.new result }
 {
-    let reply = submit_one(target, queue, number, entry, place, output);
+    let reply = target.submit(queue, number, entry);
     if !was_held(&reply) {
+        output.add(place, Kind::Submit, number, &reply);
         return place + 1;
     }
-    execute_one(target, queue, number, payload, place + 1, output);
+    execute_one(target, queue, number, payload, place, output);
     place + 1 + 1
 }
 
