@@ -28,7 +28,7 @@ fn certify_namespace(row: &NamespaceRow)
 fn certify_namespaces(rows: &Namespaces)
     ensures { All (λ (e : ℕ × space.NamespaceRow). HasIdentifiers e.1) (maps.entries rows.now) }
 {
-    for (_, row) in rows.iter() {
+    for (_, row) in rows.entries() {
         certify_namespace(row);
     }
 }
@@ -42,7 +42,7 @@ fn certify_subsystem(row: &SubsystemRow)
 fn certify_subsystems(rows: &Subsystems)
     ensures { All HasAllIdentifiers (maps.values rows.now) }
 {
-    for row in rows.iter() {
+    for (_, row) in rows.entries() {
         certify_subsystem(row);
     }
 }
@@ -57,7 +57,7 @@ fn certify_port(row: &PortRow)
 fn certify_ports(rows: &Ports)
     ensures { All (λ (p : port.PortRow). p.id < 65536) (maps.values rows.now) }
 {
-    for row in rows.iter() {
+    for (_, row) in rows.entries() {
         certify_port(row);
     }
 }

@@ -1,24 +1,19 @@
-use Rattle.std.proofs.Common.{◌∙◌, subst, map, sym}
-use Rattle.std.proofs.lemmas.List.{map_push}
-use Rattle.std.proofs.lemmas.List.Elements.{All-push}
+use Rattle.std.proofs.Common.{List, ℕ, take_all, subst, ◌∙◌, arith}
+use Rattle.std.proofs.lemmas.List.Elements.{All-map, All-more}
 use Rattle.std.specs.List.{All}
 use Rattle.std.specs.FinMap as maps
-use Rattle.std.specs.Map.Iter.{deref}
-use Rattle.std.proofs.lemmas.Map.Iter.{iter_end}
+use Rattle.configfs_rows.specs.declared.subsystems.SubsystemRow.{SubsystemRow}
 use Rattle.json_round_trip.specs.Reloads.{HasAllIdentifiers}
 use Rattle.json_round_trip.proofs.typed.certify_subsystems.Goals as goal
 
 pub returns : goal.returns
 returns c =
-    let stop = iter_end deref
-    (maps.values c.args.rows.now) c.loop-row.yielded c.into_iter-row-iterator.result
-    c.loop-row.row-iterator c.next.new.self c.next.result
-    (c.into_iter-row-iterator.ensures.into_iter_gives ∙ c.iter-row-items.ensures)
-    c.loop-row.yielded_by c.in-None.is c.next.ensures.steps in
-    subst (All HasAllIdentifiers) stop.0 c.loop-row.invariant
+    All-map HasAllIdentifiers (λ (e : List ℕ × SubsystemRow). e.1) (maps.entries c.args.rows.now) (
+    subst (All (λ (e : List ℕ × SubsystemRow). HasAllIdentifiers e.1))
+    (take_all c.loop-row.row-index c.entries-row-items.result.now (omega (arith, c.loop-row-test.false))
+    ∙ c.entries-row-items.ensures) c.loop-row.invariant)
 
 pub loop-row-preserved : goal.loop-row-preserved
-loop-row-preserved c = subst (All HasAllIdentifiers)
-    (sym (map_push deref c.loop-row.yielded c.in-Some.row))
-    (All-push HasAllIdentifiers (map deref c.loop-row.yielded) c.in-Some.row.now
-    c.loop-row.invariant c.certify_subsystem.ensures)
+loop-row-preserved c = All-more (λ (e : List ℕ × SubsystemRow). HasAllIdentifiers e.1) c.entries-row-items.result.now
+    c.loop-row.row-index c.loop-row-item.result c.loop-row-test.true c.loop-row.invariant
+    (subst (λ (e : List ℕ × SubsystemRow). HasAllIdentifiers e.1) c.loop-row-item.is c.certify_subsystem.ensures)
