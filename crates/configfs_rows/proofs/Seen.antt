@@ -1,15 +1,13 @@
--- A std map seen as a finite map: what a look-up, an insert, a removal and a write make of it.
-use Rattle.std.proofs.Common.{◌≡◌, cond, List, [], ◌∷◌, Some, None, IsSome, Result, Ok, Err, OnErr, length, arith, refl, sym, ap, subst, ◌∙◌}
-use Rattle.configfs_rows.specs.Maps.{updated, update_at}
-use Rattle.std.specs.Ordering.{eq_by_cmp, is_eq}
-use Rattle.std.specs.declared.cmp.Ordering.TheVariants.{Less, Equal, Greater}
+-- A std map seen as a finite map: what a look-up, an insert and a removal make of it.
+use Rattle.std.proofs.Common.{◌≡◌, cond, List, [], ◌∷◌, Some, None, length, arith, refl, sym, ap, ◌∙◌}
+use Rattle.std.specs.Ordering.{eq_by_cmp}
 use Rattle.std.specs.List.Sorted.{IsStrictlySortedBy}
 use Rattle.std.proofs.lemmas.Map.Keys.{sorted_head, sorted_tail}
 use Rattle.std.specs.declared.cmp.Ordering.{Ordering}
 use Rattle.std.specs.Cmp.{IsTotalOrder, eq_by_cmp_equiv}
 use Rattle.std.specs.BTreeMap as tree
 use Rattle.std.specs.BTreeMap.{BTreeMap, is_at}
-use Rattle.std.specs.Map.{lookup, keys_of, values_of}
+use Rattle.std.specs.Map.{lookup, keys_of}
 use Rattle.std.specs.FinMap as map
 use Rattle.std.specs.FinMap.{FinMap, IsAntisymmetric, find, put}
 
@@ -17,11 +15,6 @@ find_lookup : {K X : Type 0} (R : K → K → Ordering) (q : K) (es : List (K ×
     → find R q es ≡ lookup (is_at (R q)) es
 find_lookup R q [] = refl
 find_lookup R q (e ∷ es) = ap (cond (eq_by_cmp R q e.0) (Some e.1)) (find_lookup R q es)
-
--- what holds in any case holds on an error
-pub on_err : {T E : Type 0} (r : Result T E) (P : Type 0) → P → OnErr r P
-on_err (Ok x) P p = tt
-on_err (Err e) P p = p
 
 nil_of_length : {A : Type 0} (es : List A) → length es ≡ 0 → es ≡ []
 nil_of_length [] e = refl
@@ -49,10 +42,6 @@ module _ {K X : Type 0} {R : K → K → Ordering} (o : IsTotalOrder R) where
   pub seen_entries : (m : BTreeMap K X) → tree.IsOrdered R m
       → map.entries (map.from_entries {R = R} m.entries) ≡ m.entries
   seen_entries m h = entries_seen m.entries h
-
-  pub seen_values : (m : BTreeMap K X) → tree.IsOrdered R m → map.values (map.from_entries {R =
-      R} m.entries) ≡ tree.values m
-  seen_values m h = ap values_of (seen_entries m h)
 
   pub seen_keys : (m : BTreeMap K X) → tree.IsOrdered R m → map.keys (map.from_entries {R =
       R} m.entries) ≡ tree.keys m
@@ -83,40 +72,3 @@ module _ {K X : Type 0} {R : K → K → Ordering} (o : IsTotalOrder R) where
       ∙ ap (λ b. cond b None (tree.get R m q)) ((eq_by_cmp_equiv o).symm k q)
       ∙ ap (cond (eq_by_cmp R q k) None) (sym (seen_get m q))
       ∙ sym (map.get-remove o (map.from_entries m.entries) k q))
-
-  -- what a write through `get_mut` leaves, where it found something
-  pub seen_update : IsAntisymmetric R → (m n : BTreeMap K X) (k : K) (f : X → X) (now after : X)
-      → Some now ≡ tree.get R m k → (IsSome (tree.get R m k)
-      → tree.UpdatesBy R (R k) m n (Some after)) → after ≡ f now
-      → map.from_entries {R = R} n.entries ≡ update_at (map.from_entries {R = R} m.entries) k f
-  seen_update same m n k f now after found h is =
-      seen_put same m n k after (h (subst (λ x. IsSome x) found refl))
-      ∙ ap (map.insert (map.from_entries m.entries) k) is
-      ∙ ap (updated (map.from_entries {R = R} m.entries) k f) (found ∙ sym (seen_get m k))
-
-  -- and where it found nothing
-  pub seen_missing : (m n : BTreeMap K X) (k : K) (f : X → X) → None ≡ tree.get R m k → n ≡ m
-      → map.from_entries {R = R} n.entries ≡ update_at (map.from_entries {R = R} m.entries) k f
-  seen_missing m n k f none e =
-      ap (λ (x : BTreeMap K X). map.from_entries {R = R} x.entries) e
-      ∙ ap (updated (map.from_entries {R = R} m.entries) k f) (none ∙ sym (seen_get m k))
-
-  -- to put what stands there changes nothing
-  insert_same : IsAntisymmetric R → (m : FinMap R X) (k : K) (v : X) → map.get m k ≡ Some v
-      → map.insert m k v ≡ m
-  insert_same same m k v e = map.same_map o same _ _ (λ q.
-      map.get-insert o m k v q
-      ∙ elim (R q k) as (λ r. R q k ≡ r → cond (is_eq r) (Some v) (map.get m q) ≡ map.get m q) [
-        | Less ↦ λ _. refl
-        | Equal ↦ λ t. sym (subst (λ x. map.get m x ≡ Some v) (sym (same q k t)) e)
-        | Greater ↦ λ _. refl
-      ] refl)
-
-  pub seen_same : IsAntisymmetric R → (m n : BTreeMap K X) (k : K) (now after : X)
-      → Some now ≡ tree.get R m k → (IsSome (tree.get R m k)
-      → tree.UpdatesBy R (R k) m n (Some after)) → after ≡ now
-      → map.from_entries {R = R} n.entries ≡ map.from_entries {R = R} m.entries
-  seen_same same m n k now after found h is =
-      seen_put same m n k after (h (subst (λ x. IsSome x) found refl))
-      ∙ ap (map.insert (map.from_entries m.entries) k) is
-      ∙ insert_same same (map.from_entries m.entries) k now (seen_get m k ∙ sym found)

@@ -1,8 +1,7 @@
 -- Entries in the order of their keys: what stands at the place of a key, and what a write there,
 -- an insertion or a removal makes of them.
-use Rattle.std.proofs.Common.{◌≡◌, ℕ, zero, suc, ◌<◌, ◌≤◌, Bool, true, false, cond, not, ◌&&◌, T, IsTrue, List, [], ◌∷◌, map, length, get_or, set, nat_lt, option_map, Some, None, Ok, Err, inl, inr, refl, sym, ap, subst, ◌∙◌, arith}
+use Rattle.std.proofs.Common.{◌≡◌, ℕ, zero, suc, ◌<◌, ◌≤◌, Bool, true, false, cond, not, ◌&&◌, T, IsTrue, List, [], ◌∷◌, map, length, get_or, set, nat_lt, option_map, Some, None, Result, Ok, Err, inl, inr, refl, sym, ap, subst, ◌∙◌, arith}
 use Rattle.std.proofs.lemmas.Bool.{cases_lt}
-use Rattle.std.proofs.lemmas.List.{set-get_or}
 use Rattle.std.proofs.lemmas.Bool.Decides.{nat_tests}
 use Rattle.std.proofs.lemmas.Option.{slice_get-map, slice_get-get_or, slice_get_past}
 use Rattle.std.specs.declared.cmp.Ordering.{Ordering}
@@ -268,24 +267,32 @@ module _ {K X : Type 0} {R : K → K → Ordering} (o : IsTotalOrder R) (es : Li
   pub nothing_taken : (k : K) (i : ℕ) → IsPlaceOf R k es (Err i) → es ≡ others R k es
   nothing_taken k i p = sym (others_gap o k es i (gap_of k i p))
 
-  -- what a write makes of the map
-  pub write_seen : (k : K) (i : ℕ) (d : K × X) (f : X → X) (v : X) → IsPlaceOf R k es (Ok i)
-      → d ≡ get_or es i d → v ≡ f d.1
+  -- what a search in a slice of the entries gave is so of the entries
+  placed : {l : List (K × X)} (k : K) (r : Result ℕ ℕ) → l ≡ es → IsPlaceOf R k l r
+      → IsPlaceOf R k es r
+  placed k r sliced p = subst (λ l. IsPlaceOf R k l r) sliced p
+
+  -- a write to the row that a search found, which was that of d: the keys rise still
+  pub write_rises : {l : List (K × X)} (k : K) (i : ℕ) (d : K × X) (v : X) → l ≡ es
+      → IsPlaceOf R k l (Ok i) → d ≡ get_or es i d → IsTrue (is_sorted R (set es i (d.0, v)))
+  write_rises k i d v sliced p is =
+      put_rises k v _ (write_puts k i d v (placed k (Ok i) sliced p) is)
+
+  -- and what it makes of the map
+  pub write_seen : {l : List (K × X)} (k : K) (i : ℕ) (d : K × X) (v : X) (f : X → X) → l ≡ es
+      → IsPlaceOf R k l (Ok i) → d ≡ get_or es i d → v ≡ f d.1
       → maps.from_sorted {R = R} (set es i (d.0, v)) ≡ update_at seen k f
-  write_seen k i d f v p is made =
-      put_seen k v _ (write_puts k i d v p is)
+  write_seen k i d v f sliced p is made =
+      let here = placed k (Ok i) sliced p in
+      put_seen k v _ (write_puts k i d v here is)
       ∙ ap (maps.insert seen k) (made ∙ ap (λ (e : K × X). f e.1) is)
-      ∙ ap (updated seen k f) (sym (get_seen k ∙ row_there k i d p))
+      ∙ ap (updated seen k f) (sym (get_seen k ∙ row_there k i d here))
 
-  -- a write that changes nothing
-  pub write_same : (i : ℕ) (d : K × X) (v : X) → d ≡ get_or es i d → v ≡ d.1
-      → set es i (d.0, v) ≡ es
-  write_same i d v is made =
-      ap (λ (x : X). set es i (d.0, x)) made ∙ ap (set es i) is ∙ set-get_or es i d
-
-  pub nothing_written : (k : K) (i : ℕ) (f : X → X) → IsPlaceOf R k es (Err i)
-      → seen ≡ update_at seen k f
-  nothing_written k i f p = sym (ap (updated seen k f) (get_seen k ∙ row_missed k i p))
+  -- where the search found nothing, nothing is written
+  pub nothing_written : {l : List (K × X)} (k : K) (i : ℕ) (f : X → X) → l ≡ es
+      → IsPlaceOf R k l (Err i) → seen ≡ update_at seen k f
+  nothing_written k i f sliced p =
+      sym (ap (updated seen k f) (get_seen k ∙ row_missed k i (placed k (Err i) sliced p)))
 
 -- ---- the item with a number, of a list that is shown by a part of each entry
 pub nth_there : {A B : Type 0} (f : A → B) (es : List A) (n : ℕ) (d : A)

@@ -77,6 +77,8 @@ pub(crate) fn command_of_queue(held: &[Command], queue: u32) -> Option<Command>
 }
 
 // Takes the command at an index out. That is mostly the last one, behind which none has to move.
+// Inlined, as what stands around it, so that no copy of the command is made.
+#[inline(always)]
 fn take_out(held: &mut Vec<Command>, at: usize) -> Command
     requires { at < vec_len held.old }
     ensures value { result ≡ slice_index_or held.old.items at result }
@@ -93,6 +95,7 @@ fn take_out(held: &mut Vec<Command>, at: usize) -> Command
 }
 
 // Takes the command of a capsule out, where it is held.
+#[inline(always)]
 pub(crate) fn take_command(held: &mut Vec<Command>, queue: u32, number: u32) -> Option<Command>
     ensures command { result ≡ find (is_command queue number) held.old.items }
     ensures rest { held.new.items ≡ without (is_command queue number) held.old.items }
@@ -130,7 +133,9 @@ pub(crate) fn takes(disks: &[Disk], job: &Job, len: usize) -> bool
     }
 }
 
-// Does a job on the disk with its number, and appends what it reads.
+// Does a job on the disk with its number, and appends what it reads. Inlined: an Execute has no
+// other work.
+#[inline(always)]
 pub(crate) fn work(disks: &mut [Disk], job: &Job, payload: &[u8], to: &mut Buffer)
     requires fits { FitsOn job.now (slice_get disks.old (disk_of job.now)) }
     requires data { HasDataOn job.now (slice_get disks.old (disk_of job.now)) (length payload.now) }

@@ -1,32 +1,21 @@
-use Rattle.std.proofs.Common.{Ok, Err, subst}
-use Rattle.std.specs.Ordering.{nat_cmp}
 use Rattle.std.specs.Cmp.{nat_cmp_total}
-use Rattle.configfs_rows.specs.Maps.{IsPlaceOf}
 use Rattle.configfs_rows.specs.Rows.{put_in}
-use Rattle.configfs_rows.proofs.SortedRows.{put_rises, write_puts, write_seen, nothing_written}
+use Rattle.configfs_rows.proofs.SortedRows.{write_rises, write_seen, nothing_written}
 use Rattle.configfs_rows.proofs.namespaces.Namespaces.put.Goals as goal
 
 pub invariant_of-self : goal.invariant_of-self
 invariant_of-self c =
-    let place = subst (λ l. IsPlaceOf nat_cmp c.args.nsid l (Ok c.in-Ok.at)) c.deref.ensures.value
-    c.in-Ok.ensures in
-    put_rises nat_cmp_total c.self.inside.rows.items c.self.invariant
-    c.args.nsid c.put.new.self _ (write_puts nat_cmp_total
-    c.self.inside.rows.items c.self.invariant c.args.nsid c.in-Ok.at c.index_mut.result.now
-    c.put.new.self place c.index_mut.ensures.value)
+    write_rises nat_cmp_total c.self.inside.rows.items c.self.invariant c.args.nsid c.in-Ok.at c.index_mut.result.now
+    c.put.new.self c.deref.ensures.value c.in-Ok.ensures c.index_mut.ensures.value
 
 pub returns-in-Ok : goal.returns-in-Ok
 returns-in-Ok c =
-    let place = subst (λ l. IsPlaceOf nat_cmp c.args.nsid l (Ok c.in-Ok.at)) c.deref.ensures.value
-    c.in-Ok.ensures in
-    rw (← c.self.view_is) (write_seen nat_cmp_total
-    c.self.inside.rows.items c.self.invariant c.args.nsid c.in-Ok.at c.index_mut.result.now
-    (put_in c.args.put) c.put.new.self place c.index_mut.ensures.value c.put.ensures)
+    rw (← c.self.view_is) (write_seen nat_cmp_total c.self.inside.rows.items c.self.invariant c.args.nsid
+    c.in-Ok.at c.index_mut.result.now c.put.new.self (put_in c.args.put)
+    c.deref.ensures.value c.in-Ok.ensures c.index_mut.ensures.value c.put.ensures)
 
 pub returns-in_default : goal.returns-in_default
 returns-in_default c =
-    let place = subst (λ l. IsPlaceOf nat_cmp c.args.nsid l (Err c.in_default.field-0))
-    c.deref.ensures.value c.in_default.ensures in
-    rw (← c.self.view_is) (nothing_written nat_cmp_total
-    c.self.inside.rows.items c.self.invariant c.args.nsid c.in_default.field-0
-    (put_in c.args.put) place)
+    rw (← c.self.view_is) (nothing_written nat_cmp_total c.self.inside.rows.items c.self.invariant
+    c.args.nsid c.in_default.field-0 (put_in c.args.put)
+    c.deref.ensures.value c.in_default.ensures)
