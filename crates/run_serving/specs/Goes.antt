@@ -17,7 +17,7 @@ use Rattle.run_transcript.specs.Turns.{Stage, Ready, Holding, Through, after_sub
 use Rattle.run_transcript.specs.Printing.{head_of}
 use Rattle.run_transcript.specs.Served.{front_len, is_final_poll}
 use Rattle.run_serving.specs.declared.output.Output.{Output}
-use Rattle.run_serving.specs.Prints.{Adds, Prints}
+use Rattle.run_serving.specs.Prints.{Prints}
 
 -- ---- a queue's entries one after another
 abbrev pub progress_after : Progress → List Entry → Progress
@@ -104,12 +104,6 @@ ServesExecute queue number payload k o place k' o' place' = (file : List Capsule
     → slice_get file number ≡ Some (record { entry = e; payload = payload })
     → Makes false queue file (IsAt (number + 1) Holding) k o place (IsAt (number + 1) Through) k' o'
     place'
-
--- a command is held, its submit stands in the output, and it is executed
-abbrev pub ServesHeld : ℕ → ℕ → List ℕ → Kept → Output → ℕ → Kept → Output → ℕ → Type 0
-ServesHeld queue number payload k o place k' o' place' = (mid : Output)
-    × Adds o mid place kinds.Submit number replies.Held 0 []
-    × ServesExecute queue number payload k mid (place + 1) k' o' place'
 
 -- ---- polls
 -- polls of a queue, one after another, find no event after so many at the most

@@ -1,22 +1,23 @@
 // The calls of one queue.
-ghost use Rattle.std.specs.Prelude.{◌≡◌, ◌≤◌, ◌<◌, ◌+◌, ◌*◌, ◌^◌, ◌++◌, ◌≢◌, [], IsTrue, true, false, length, List, ℕ};
+ghost use Rattle.std.specs.Prelude.{◌≡◌, ◌≤◌, ◌<◌, ◌+◌, ◌*◌, ◌^◌, ◌++◌, ◌≢◌, [], true, false, length, List, ℕ};
 ghost use Rattle.mem_bdev.specs.Texts.{HasRoom, appended};
 ghost use Rattle.mem_bdev.specs.declared.limits.TheConstants.{MAX_TRANSFER};
-ghost use Rattle.sqe_cqe.specs.Sqe.{direction_of, host_len, payload_len};
+ghost use Rattle.sqe_cqe.specs.Sqe.{host_len, payload_len};
 ghost use Rattle.sqe_cqe.specs.declared.codes.TheConstants.{FABRICS};
+ghost use Rattle.io_commands.specs.declared.jobs.Admit.TheVariants.{Run};
 ghost use Rattle.run_records.specs.Records.{head_bytes, record_bytes};
 ghost use Rattle.plan_files.specs.Rooms.{capsule_room};
-ghost use Rattle.tree_target.specs.Kept.{HasHeldData, HasQueue, IsHolding, IsIdle, LeavesOthers, given_room, held_bytes, held_len, holds, is_admin_in, is_poll_reply};
-ghost use Rattle.tree_target.specs.Model.{Submit, Execute, Poll, Control};
-ghost use Rattle.tree_target.specs.Stands.{Simulates};
+ghost use Rattle.tree_target.specs.Kept.{AdmitsOn, HasQueue, IsIdle, LeavesOthers, admission_by, given_room, is_admin_in, is_poll_reply, job_bytes};
+ghost use Rattle.tree_target.specs.Model.{Submit};
+ghost use Rattle.tree_target.specs.Stands.{RunsAtOnce};
 ghost use Rattle.run_transcript.specs.Printing.{head_of};
-ghost use Rattle.run_serving.specs.Goes.{ServesFinal, ServesHeld, ServesOne, ServesPoll, ServesThrough, SubmitsInto};
-ghost use Rattle.run_serving.specs.Prints.{Adds};
+ghost use Rattle.run_serving.specs.Goes.{ServesFinal, ServesOne, ServesPoll, ServesThrough, SubmitsInto};
 
 use crate::output::{Output, head};
+use io_commands::{Admit, Job};
 use mem_bdev::Buffer;
 use run_records::{HEAD_BYTES, Head, Kind, write_head};
-use sqe_cqe::{FABRICS, Sqe};
+use sqe_cqe::{Direction, FABRICS, Sqe, direction};
 use tree_target::{Reply, Target};
 
 // Answers a fabrics command.
@@ -58,90 +59,98 @@ fn both_heads(first: &Head, second: &Head) -> [u8; 64]
     bytes
 }
 
-// Executes the command that is held, and appends two records: that of the submit, and that of the
-// execute, whose head the held command tells, with what a Read reads behind it, straight from the
-// disk. Tells how many bytes that were. Both heads are put at once: an append of 32 bytes costs 73
-// instructions.
-fn execute_into(
+// How many bytes of data for the host an entry names.
+#[tactic(auto, unfolding(sqe_cqe::specs::Sqe::host_len))]
+fn host_len(e: &Sqe) -> u32
+    ensures { result ≡ host_len e.now }
+{
+    match direction(e) {
+        Direction::ToHost => e.sgl_len,
+        Direction::Nothing | Direction::ToController | Direction::Both => 0,
+    }
+}
+
+// Runs a command that was admitted with this job, and appends two records: that of its submit, and
+// that of its execute, with what a Read reads behind the head, straight from the disk. Both heads
+// are put at once. Tells how many bytes were read.
+fn run_into(
     target: &mut Target,
     queue: u32,
     number: u32,
+    entry: &Sqe,
+    job: &Job,
     payload: &[u8],
     place: u32,
     to: &mut Buffer,
 ) -> (Reply, u32)
-    requires held { IsTrue (holds target.old queue number) }
-    requires data { HasHeldData target.old queue number (length payload.now) }
+    requires queue { HasQueue target.old queue }
+    requires idle { IsIdle target.old queue }
+    requires not_admin { is_admin_in target.old queue ≡ false }
+    requires admitted { admission_by target.old queue entry.now ≡ Run job.now }
+    requires fits { AdmitsOn target.old.blocks entry.now job.now }
+    requires payload { length payload.now ≡ payload_len entry.now }
     requires place { place + 1 < 2 ^ 32 }
-    requires room { HasRoom to.old (HEAD_BYTES + (HEAD_BYTES + held_len target.old queue number)) }
+    requires room { HasRoom to.old (HEAD_BYTES + (HEAD_BYTES + host_len entry.now)) }
     ensures idle { IsIdle target.new queue }
     ensures bindings { target.new.bindings ≡ target.old.bindings }
     ensures others { LeavesOthers queue target.old target.new }
-    ensures does { Simulates target.old (Execute queue number payload.now) result.0
-        (held_bytes target.old queue number) target.new }
-    ensures given { result.1 ≡ length (held_bytes target.old queue number) }
-    ensures small { result.1 ≡ held_len target.old queue number }
+    ensures runs { RunsAtOnce target.old queue number entry.now payload.now result.0
+        (job_bytes target.old.blocks job.now) target.new }
+    ensures given { result.1 ≡ length (job_bytes target.old.blocks job.now) }
+    ensures small { result.1 ≡ host_len entry.now }
     ensures appends { to.new ≡ appended (appended to.old
         (record_bytes (head_of place Kind.Submit number Reply.Held 0) []))
         (record_bytes (head_of (place + 1) Kind.Execute number result.0 result.1)
-        (held_bytes target.old queue number)) }
+        (job_bytes target.old.blocks job.now)) }
     ensures len { length to.new.bytes ≡ length to.old.bytes
-        + (HEAD_BYTES + (HEAD_BYTES + held_len target.old queue number)) }
+        + (HEAD_BYTES + (HEAD_BYTES + host_len entry.now)) }
 {
-    let reply = target.held_reply(queue, number);
-    let given = target.held_len(queue, number);
+    let reply = target.success(queue, entry);
+    let given = host_len(entry);
     let submitted = head(place, Kind::Submit, number, &Reply::Held, 0);
     let executed = head(place + 1, Kind::Execute, number, &reply, given);
     to.put(&both_heads(&submitted, &executed));
-    let reply = target.execute(queue, number, payload, to);
+    target.run_at_once(queue, number, entry, job, payload, to);
     (reply, given)
 }
 
-// Executes the command that was held at a place, and records both.
-fn execute_one(
+// Runs a command that was admitted with this job: it is held at a place, executed at the next one,
+// and both are recorded.
+fn run_one(
     target: &mut Target,
     queue: u32,
     number: u32,
+    entry: &Sqe,
+    job: &Job,
     payload: &[u8],
     place: u32,
     output: &mut Output,
 )
-    requires held { IsTrue (holds target.old queue number) }
-    requires data { HasHeldData target.old queue number (length payload.now) }
-    requires short { held_len target.old queue number ≤ MAX_TRANSFER }
-    requires payload { length payload.now < 2 ^ 32 }
+    requires queue { HasQueue target.old queue }
+    requires idle { IsIdle target.old queue }
+    requires not_admin { is_admin_in target.old queue ≡ false }
+    requires opcode { entry.now.opcode ≢ FABRICS }
+    requires admitted { admission_by target.old queue entry.now ≡ Run job.now }
+    requires fits { AdmitsOn target.old.blocks entry.now job.now }
+    requires payload { length payload.now ≡ payload_len entry.now }
+    requires short { length payload.now < 2 ^ 32 }
     requires place { place + 1 < 2 ^ 32 }
     requires few { output.old.calls + 1 < 4294967295 }
-    requires room { HasRoom output.old.records (HEAD_BYTES
-        + (HEAD_BYTES + held_len target.old queue number)) }
+    requires room { HasRoom output.old.records (HEAD_BYTES + (HEAD_BYTES + host_len entry.now)) }
     ensures idle { IsIdle target.new queue }
     ensures bindings { target.new.bindings ≡ target.old.bindings }
     ensures others { LeavesOthers queue target.old target.new }
     ensures calls { output.new.calls ≡ output.old.calls + 1 + 1 }
     ensures len { length output.new.records.bytes ≡ length output.old.records.bytes
-        + (HEAD_BYTES + (HEAD_BYTES + held_len target.old queue number)) }
+        + (HEAD_BYTES + (HEAD_BYTES + host_len entry.now)) }
     ensures room { output.new.records.room ≡ output.old.records.room }
-    ensures serves { ServesHeld queue number payload.now target.old output.old place target.new
-        output.new (place + 1 + 1) }
+    ensures serves { ServesOne queue number entry.now payload.now target.old output.old place
+        target.new output.new (place + 1 + 1) }
 {
     output.count(Kind::Submit, &Reply::Held, 0, 0);
-    let (reply, given) = execute_into(target, queue, number, payload, place, &mut output.records);
+    let records = &mut output.records;
+    let (reply, given) = run_into(target, queue, number, entry, job, payload, place, records);
     output.count(Kind::Execute, &reply, payload.len(), given as usize);
-}
-
-fn was_held(reply: &Reply) -> bool
-    ensures held { IsTrue result → reply.now ≡ Reply.Held }
-    ensures other { result ≡ false → reply.now ≢ Reply.Held }
-{
-    match reply {
-        Reply::Held => true,
-        Reply::Answered(_)
-        | Reply::Waiting
-        | Reply::NoEvent
-        | Reply::Accepted
-        | Reply::Errno(_)
-        | Reply::Ended => false,
-    }
 }
 
 // Serves a command of a queue that isn't a connected admin queue. Gives the next place.
@@ -173,13 +182,17 @@ fn command_one(
     ensures serves { ServesOne queue number entry.now payload.now target.old output.old place
         target.new output.new result }
 {
-    let reply = target.submit(queue, number, entry);
-    if !was_held(&reply) {
-        output.add(place, Kind::Submit, number, &reply);
-        return place + 1;
+    match target.admit(queue, entry) {
+        Admit::Refused(status) => {
+            let reply = target.refuse(queue, number, entry, status);
+            output.add(place, Kind::Submit, number, &reply);
+            place + 1
+        }
+        Admit::Run(job) => {
+            run_one(target, queue, number, entry, &job, payload, place, output);
+            place + 1 + 1
+        }
     }
-    execute_one(target, queue, number, payload, place, output);
-    place + 1 + 1
 }
 
 // Submits a command of a connected admin queue, and appends its record. How many bytes of data the

@@ -195,6 +195,15 @@ last_found p held h none is =
     ∙ (ap (λ (o : Option Command). option_or o (find p (h ∷ []))) none
     ∙ ap (λ b. cond b (Some h) None) is)
 
+-- the one that was put last is taken
+pub last_taken : (p : Command → Bool) (held : List Command) (h : Command) → find p held ≡ None
+    → p h ≡ true → without p (held ++ h ∷ []) ≡ held
+last_taken p [] h none is = ap (λ b. cond b [] (h ∷ [])) is
+last_taken p (k ∷ held) h none is =
+    let w = none_on p k held (p k) refl none in
+    ap (λ b. cond b (held ++ h ∷ []) (k ∷ without p (held ++ h ∷ []))) w.here
+    ∙ ap (λ (xs : List Command). k ∷ xs) (last_taken p held h w.later is)
+
 or_none : (o : Option Command) → option_or o None ≡ o
 or_none None = refl
 or_none (Some h) = refl

@@ -6,6 +6,7 @@ pub mod Shapes
 pub mod Joining
 pub mod Simulating
 pub mod Admitting
+pub mod AtOnce
 pub mod Accepting
 pub mod Controlling
 pub mod Administering

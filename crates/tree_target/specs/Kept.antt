@@ -32,7 +32,7 @@ use Rattle.tree_target.specs.declared.calls.Reply.TheVariants as replies
 use Rattle.plan_files.specs.declared.plan.TheConstants.{MAX_QUEUES}
 use Rattle.plan_files.specs.Rooms.{data_room}
 use Rattle.tree_target.specs.Model.{is_command}
-use Rattle.tree_target.specs.Steps.{bytes_executed}
+use Rattle.tree_target.specs.Steps.{bytes_executed, read_of}
 use Rattle.tree_target.specs.Looked.{tree_answers}
 use Rattle.tree_target.specs.Joined.{AreJoined}
 use Rattle.tree_target.specs.Admission.{as_bound}
@@ -273,6 +273,10 @@ pub record LeavesOthers (queue : ℕ) (old new : Kept) : Type 0 where
   pub idle : (q : ℕ) → q ≢ queue → IsIdle old q → IsIdle new q
   pub holding : (q number taken given : ℕ) → q ≢ queue → IsHolding old q number taken given
       → IsHolding new q number taken given
+
+-- what a job reads of its disk
+abbrev pub job_bytes : List Blocks → Job → List ℕ
+job_bytes blocks job = read_of job (slice_get blocks (disk_of job))
 
 -- ---- what is admitted
 -- the job lies on its disk, and its data are as long as the entry says, both ways

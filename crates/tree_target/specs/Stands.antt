@@ -12,7 +12,8 @@ use Rattle.sqe_cqe.specs.declared.controllers.Bound.{Bound as CodeBound}
 use Rattle.sqe_cqe.specs.declared.controllers.Binding.{Binding as CodeBinding}
 use Rattle.tree_target.specs.declared.calls.Reply.{Reply}
 use Rattle.tree_target.specs.declared.calls.Reply.TheVariants as replies
-use Rattle.tree_target.specs.Model.{Call, Submit, Bound, Binding, Target}
+use Rattle.sqe_cqe.specs.declared.sqe.Sqe.{Sqe}
+use Rattle.tree_target.specs.Model.{Call, Submit, Execute, Bound, Binding, Target}
 use Rattle.tree_target.specs.Steps.{is_lawful, reply_of, bytes_of, target_after}
 use Rattle.tree_target.specs.Kept.{Kept, given_room}
 
@@ -59,6 +60,14 @@ pub record Does (t : Target) (call : Call) (reply : Reply) (bytes : List ℕ) (k
 -- the same of each model that the program's target stood for before
 abbrev pub Simulates : Kept → Call → Reply → List ℕ → Kept → Type 0
 Simulates old call reply bytes new = (t : Target) → StandsFor old t → Does t call reply bytes new
+
+-- a command is submitted, is held, and is executed as the next call: the model does both
+pub record RunsAtOnce (old : Kept) (queue number : ℕ) (e : Sqe) (payload : List ℕ) (reply : Reply)
+    (bytes : List ℕ) (new : Kept) : Type 0 where
+  -- what is kept between the two
+  pub between : Kept
+  pub submits : Simulates old (Submit queue number e) replies.Held [] between
+  pub executes : Simulates between (Execute queue number payload) reply bytes new
 
 -- how many bytes a call may give: those of a submit that the response has room for
 abbrev pub room_of_call : Call → ℕ

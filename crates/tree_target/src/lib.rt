@@ -10,6 +10,7 @@
 #![tactic(auto)]
 
 mod admin;
+mod at_once;
 mod calls;
 mod commands;
 mod editor;

@@ -33,9 +33,10 @@ impl Target {
         }
     }
 
-    // What a command gets.
+    /// What the submit of a command gets on a queue that isn't an admin queue (`is_admin` tells):
+    /// the status of the first check that fails, or the job that it asks for.
     #[tactic(auto, unfolding(crate::specs::Kept::admission_by))]
-    fn admit(&self, queue: u32, e: &Sqe) -> Admit
+    pub fn admit(&self, queue: u32, e: &Sqe) -> Admit
         ensures value { result ≡ admission_by self.now queue e.now }
         ensures fits { AdmitFits self.now.blocks e.now result }
     {
@@ -66,7 +67,7 @@ impl Target {
         subsystem_positions(&self.tree);
         port_positions(&self.tree);
         match self.admit(queue, e) {
-            Admit::Refused(status) => complete(self.qid(queue), e.cid, status),
+            Admit::Refused(status) => self.refuse(queue, number, e, status),
             Admit::Run(job) => {
                 let command = Command {
                     queue,

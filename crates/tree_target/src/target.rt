@@ -5,7 +5,7 @@ ghost use Rattle.mem_bdev.specs.declared.limits.TheConstants.{MAX_TRANSFER};
 ghost use Rattle.plan_files.specs.declared.plan.TheConstants.{MAX_QUEUES};
 ghost use Rattle.tree_target.specs.Edits.{is_well_formed};
 ghost use Rattle.tree_target.specs.Loads.{IsFresh, LoadsTarget, start_of, loaded};
-ghost use Rattle.tree_target.specs.Kept.{HasHeldData, HasQueue, IsIdle, binding_in, bound_in, is_admin_in, is_admin_bound, held_len, held_reply, qid_from};
+ghost use Rattle.tree_target.specs.Kept.{HasHeldData, HasQueue, IsIdle, binding_in, bound_in, is_admin_in, is_admin_bound, held_len, qid_from};
 ghost use Rattle.tree_target.specs.Stands.{StandsFor};
 ghost use Rattle.tree_target.specs.Kept.{answered};
 
@@ -18,7 +18,7 @@ use configfs_tree::Tree;
 use link_rules::Edit;
 use mem_bdev::{Disk, DiskLine};
 use plan_files::MAX_QUEUES;
-use sqe_cqe::{Binding, Controllers, Cqe, SUCCESS};
+use sqe_cqe::{Binding, Controllers, Cqe};
 use std::alloc::{AllocError, Global};
 use std::marker::Model;
 
@@ -183,17 +183,6 @@ impl Target {
         match self.bound(queue) {
             None => false,
             Some(bound) => bound.qid == 0,
-        }
-    }
-
-    /// What the execute of this capsule's held command replies: success. Of no command that is
-    /// `NoEvent`.
-    pub fn held_reply(&self, queue: u32, number: u32) -> Reply
-        ensures { result ≡ held_reply self.now queue number }
-    {
-        match find_command(&self.held, queue, number) {
-            None => Reply::NoEvent,
-            Some(command) => complete(self.qid(queue), command.cid, SUCCESS),
         }
     }
 

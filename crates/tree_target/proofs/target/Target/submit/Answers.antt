@@ -3,7 +3,7 @@ use Rattle.io_commands.specs.declared.jobs.Admit.TheVariants.{Run}
 use Rattle.configfs_tree.specs.Links.{SubsystemPositions, PortPositions}
 use Rattle.tree_target.specs.Kept.{Kept, HasQueue, IsIdle, AdmitsOn, admission_by, is_admin_in}
 use Rattle.tree_target.specs.contracts.target.Target.{the_view}
-use Rattle.tree_target.proofs.Admitting.{refused_does, held_does, held_kept, held_room, holds_after, held_leaves}
+use Rattle.tree_target.proofs.Admitting.{held_does, held_kept, held_room, holds_after, held_leaves}
 use Rattle.tree_target.proofs.target.Target.submit.Goals as goal
 
 pub unreachable-requires : goal.unreachable-requires
@@ -29,11 +29,7 @@ invariant_of-self c =
     c.args.e.now c.in-Run.job c.self.invariant c.in-Ok.ensures.capacity queue idle fits)
 
 pub returns-in-Refused-clause-does : goal.returns-in-Refused-clause-does
-returns-in-Refused-clause-does c = rw (c.complete.ensures, c.qid.ensures)
-    (refused_does c.args.self.now c.args.queue c.args.number c.args.e.now c.in-Refused.status
-    (subst (λ (x : Kept). SubsystemPositions x.tree) c.self.view_is c.subsystem_positions.ensures)
-    (subst (λ (x : Kept). PortPositions x.tree) c.self.view_is c.port_positions.ensures)
-    c.requires.not_admin (sym c.in-Refused.ensures.value))
+returns-in-Refused-clause-does c = c.refuse.ensures.does
 
 pub returns-in-Ok-clause-does : goal.returns-in-Ok-clause-does
 returns-in-Ok-clause-does c =

@@ -2,13 +2,14 @@ use Rattle.std.proofs.Common.{ℕ, ◌+◌, [], ap, ◌∙◌, refl}
 use Rattle.mem_bdev.specs.Texts.{Text, appended}
 use Rattle.run_records.specs.Records.{record_bytes}
 use Rattle.run_records.specs.declared.records.Kind.TheVariants as kinds
-use Rattle.tree_target.specs.Kept.{held_bytes}
+use Rattle.tree_target.specs.Kept.{job_bytes}
 use Rattle.tree_target.specs.declared.calls.Reply.TheVariants as replies
 use Rattle.run_transcript.specs.Printing.{head_of}
 use Rattle.run_serving.specs.declared.output.Output.{Output}
 use Rattle.run_serving.proofs.More.{counts_more}
-use Rattle.run_serving.proofs.Calling.{makes_execute}
-use Rattle.run_serving.proofs.calls.execute_one.Goals as goal
+use Rattle.run_serving.proofs.Calling.{both_serve, makes_execute, makes_submit}
+use Rattle.run_serving.proofs.Nexts.{no_fabrics}
+use Rattle.run_serving.proofs.calls.run_one.Goals as goal
 
 pub returns-clause-serves : goal.returns-clause-serves
 returns-clause-serves c =
@@ -18,9 +19,10 @@ returns-clause-serves c =
     let submit = record_bytes (head_of c.args.place kinds.Submit n replies.Held 0) [] in
     let mid : Output = record one { records = appended one.records submit } in
     let counted = c.count.ensures.counts in
-    let reply = c.execute_into-reply.result.0 in
-    let bytes = held_bytes c.args.target.now c.args.queue n in
-    let given = c.execute_into-reply.ensures.given in
+    let reply = c.run_into-reply.result.0 in
+    let bytes = job_bytes c.args.target.now.blocks c.args.job.now in
+    let given = c.run_into-reply.ensures.given in
+    let runs = c.run_into-reply.ensures.runs in
     let first = counts_more old old mid c.args.place kinds.Submit n replies.Held 0 0 []
     (ap (λ (t : Text). appended t submit) c.count.ensures.same) refl refl refl refl refl refl refl
     refl refl (record {
@@ -34,12 +36,12 @@ returns-clause-serves c =
       given = counted.given;
     }) in
     let records =
-    c.count-2.ensures.same ∙ c.execute_into-reply.ensures.appends
+    c.count-2.ensures.same ∙ c.run_into-reply.ensures.appends
     ∙ ap (λ (m : ℕ). appended (appended one.records submit)
-    (record_bytes (head_of (c.args.place + 1) kinds.Execute n reply m) bytes)) given in (
-      mid,
-      first,
-      makes_execute _ _ _ _ _ _ _ _ _ _ c.execute_into-reply.ensures.does
-          (counts_more mid _ _ _ kinds.Execute n reply _ _ bytes records refl refl refl refl refl refl refl
-          refl given c.count-2.ensures.counts),
-    )
+    (record_bytes (head_of (c.args.place + 1) kinds.Execute n reply m) bytes)) given in
+    both_serve _ _ _ runs.between _ _ mid _ _ _ _ replies.Held _ _
+    c.run_into-reply.ensures.bindings c.requires.not_admin refl
+    (makes_submit _ _ _ _ _ _ _ _ _ _ runs.submits first (no_fabrics _ c.requires.opcode))
+    (makes_execute _ _ _ _ _ _ _ _ _ _ runs.executes
+    (counts_more mid _ _ _ kinds.Execute n reply _ _ bytes records refl refl refl refl refl refl refl
+    refl given c.count-2.ensures.counts))

@@ -3,10 +3,10 @@ use Rattle.std.proofs.lemmas.List.{append_assoc}
 use Rattle.mem_bdev.specs.Texts.{Text, appended, with_bytes}
 use Rattle.run_records.specs.Records.{head_bytes}
 use Rattle.run_records.specs.declared.records.Kind.TheVariants as kinds
-use Rattle.tree_target.specs.Kept.{held_bytes, held_reply}
+use Rattle.tree_target.specs.Kept.{job_bytes}
 use Rattle.tree_target.specs.declared.calls.Reply.TheVariants as replies
 use Rattle.run_transcript.specs.Printing.{head_of}
-use Rattle.run_serving.proofs.calls.execute_into.Goals as goal
+use Rattle.run_serving.proofs.calls.run_into.Goals as goal
 
 -- two heads that are put at once, and then data, are two records
 two_records : (t : Text) (s e b : List ℕ)
@@ -20,16 +20,14 @@ two_records t s e b = ap (λ (l : List ℕ). with_bytes t l)
 pub returns-clause-appends : goal.returns-clause-appends
 returns-clause-appends c =
     let n = c.args.number in
-    let reply = held_reply c.args.target.now c.args.queue n in
     rw (
-      c.execute-reply.ensures.appends,
+      c.run_at_once.ensures.appends,
       c.put.ensures,
       c.both_heads.ensures,
       c.head-submitted.ensures,
       c.head-executed.ensures,
-      c.held_reply-reply.ensures,
-      c.execute-reply.ensures.reply,
     ) (two_records c.args.to.now
     (head_bytes (head_of c.args.place kinds.Submit n replies.Held 0))
-    (head_bytes (head_of (c.args.place + 1) kinds.Execute n reply c.held_len-given.result))
-    (held_bytes c.args.target.now c.args.queue n))
+    (head_bytes (head_of (c.args.place + 1) kinds.Execute n c.success-reply.result
+    c.host_len-given.result))
+    (job_bytes c.args.target.now.blocks c.args.job.now))
