@@ -14,8 +14,6 @@ mod editing;
 mod files;
 mod output;
 mod rounds;
-#[cfg(test)]
-mod tests;
 mod whole;
 
 pub use output::Output;

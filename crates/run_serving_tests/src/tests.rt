@@ -1,14 +1,15 @@
 // Whole runs: the journals of scripts, and the records of queues that aren't connected.
-ghost use Rattle.std.specs.Prelude.{◌≡◌, length, ℕ};
+ghost use Rattle.std.specs.Prelude.{◌≡◌, ◌≤◌, All, IsTrue, length, ℕ};
+ghost use Rattle.tree_target.specs.Edits.{is_well_formed};
 ghost use Rattle.tree_target.specs.Kept.{IsIdle};
 ghost use Rattle.run_serving.specs.Readiness.{IsServable};
 
-use crate::*;
 use configfs_tree::{Errno, may_be_disks};
 use journal_text::{Answer, JournalLine};
 use link_rules::read_edit;
 use mem_bdev::{DiskLine, Name};
 use plan_files::read_sized_capsules;
+use run_serving::{Output, Served, serve};
 use run_transcript::{CapsuleFile, ScriptEdit};
 use script_lines::read_lines;
 use std::alloc::Global;
@@ -62,13 +63,30 @@ fn file_of(rt: &impl Abort, alloc: Global, bytes: &[u8]) -> CapsuleFile
     }
 }
 
-// Serves a script and no capsule, with one queue.
-fn scripted(rt: &impl Abort, alloc: Global, text: &str) -> Served {
-    let mut target = empty(rt, alloc, &[1]);
+// The edits of a script that may be served.
+fn fitting(rt: &impl Abort, alloc: Global, text: &str) -> Vec<ScriptEdit>
+    ensures few { length result.items ≤ 65536 }
+    ensures well_formed { All (λ s. IsTrue (is_well_formed s.edit)) result.items }
+{
     let script = script_of(rt, alloc, text);
     assert!(rt; script.len() <= 65_536);
     assert!(rt; script.iter().all(|s| s.edit.is_fitting()));
+    script
+}
+
+// Serves a script and no capsule, with one queue.
+fn scripted(rt: &impl Abort, alloc: Global, text: &str) -> Served {
+    let mut target = empty(rt, alloc, &[1]);
+    let script = fitting(rt, alloc, text);
     let files = [file_of(rt, alloc, &[])];
+    serve(alloc, &mut target, &script, &files).expect(rt, "memory")
+}
+
+// Serves a script and two files, of queues that aren't connected.
+fn served(rt: &impl Abort, alloc: Global, text: &str, first: &[u8], second: &[u8]) -> Served {
+    let mut target = empty(rt, alloc, &[1, 1]);
+    let script = fitting(rt, alloc, text);
+    let files = [file_of(rt, alloc, first), file_of(rt, alloc, second)];
     serve(alloc, &mut target, &script, &files).expect(rt, "memory")
 }
 
@@ -151,30 +169,36 @@ fn refusal(place: u8, kind: u8, number: u8, cid: u8) -> [u8; 32] {
     bytes
 }
 
+// Two capsules or two records, one behind the other.
+fn both(rt: &impl Abort, alloc: Global, first: &[u8], second: &[u8]) -> Vec<u8> {
+    let mut bytes = first.to_vec(alloc).expect(rt, "memory");
+    bytes
+        .extend_from_slice(second)
+        .ok()
+        .expect(rt, "memory");
+    bytes
+}
+
+// An output of one refused submit and one refused fabrics command, with these records.
+fn check_refusals(rt: &impl Abort, output: Option<&Output>, records: &[u8]) {
+    let output = output.expect(rt, "an output");
+    assert_eq!(rt; output.records.bytes(), records);
+    assert_eq!(rt; output.submitted, 1);
+    assert_eq!(rt; output.executed, 0);
+    assert_eq!(rt; output.refused, 2);
+}
+
 #[test]
-fn fronts_come_first_and_places_go_on(rt: HostRuntime) -> Result<(), Fail> {
+fn fronts_come_first_and_places_go_on(rt: HostRuntime) {
     let alloc = rt.alloc();
-    let mut target = empty(&rt, alloc, &[1, 1]);
-    let script = script_of(&rt, alloc, "mkdir hosts/h\n");
-    assert!(rt; script.len() <= 65_536);
-    assert!(rt; script.iter().all(|s| s.edit.is_fitting()));
-    let first = [capsule(0x02, 7), capsule(0x7f, 8)].concat(alloc)?;
-    let second = [capsule(0x7f, 9), capsule(0x00, 10)].concat(alloc)?;
-    let files = [file_of(&rt, alloc, &first), file_of(&rt, alloc, &second)];
-    let ran = serve(alloc, &mut target, &script, &files)?;
-    let expected = [
-        [refusal(2, 1, 0, 7), refusal(3, 4, 1, 8)],
-        [refusal(0, 4, 0, 9), refusal(4, 1, 1, 10)],
-    ];
+    let first = both(&rt, alloc, &capsule(0x02, 7), &capsule(0x7f, 8));
+    let second = both(&rt, alloc, &capsule(0x7f, 9), &capsule(0x00, 10));
+    let ran = served(&rt, alloc, "mkdir hosts/h\n", &first, &second);
     assert_eq!(rt; ran.journal.as_slice(), [made(1, 1)].as_slice());
     assert_eq!(rt; ran.places, 5);
     assert_eq!(rt; ran.outputs.len(), 2);
-    for (output, records) in ran.outputs.iter().zip(&expected) {
-        let bytes = records.concat(alloc)?;
-        assert_eq!(rt; output.records.bytes(), bytes.as_slice());
-        assert_eq!(rt; output.submitted, 1);
-        assert_eq!(rt; output.executed, 0);
-        assert_eq!(rt; output.refused, 2);
-    }
-    Ok(())
+    let first = both(&rt, alloc, &refusal(2, 1, 0, 7), &refusal(3, 4, 1, 8));
+    check_refusals(&rt, ran.outputs.get(0), &first);
+    let second = both(&rt, alloc, &refusal(0, 4, 0, 9), &refusal(4, 1, 1, 10));
+    check_refusals(&rt, ran.outputs.get(1), &second);
 }
