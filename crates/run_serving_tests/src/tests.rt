@@ -172,10 +172,7 @@ fn refusal(place: u8, kind: u8, number: u8, cid: u8) -> [u8; 32] {
 // Two capsules or two records, one behind the other.
 fn both(rt: &impl Abort, alloc: Global, first: &[u8], second: &[u8]) -> Vec<u8> {
     let mut bytes = first.to_vec(alloc).expect(rt, "memory");
-    bytes
-        .extend_from_slice(second)
-        .ok()
-        .expect(rt, "memory");
+    bytes.extend_from_slice(second).ok().expect(rt, "memory");
     bytes
 }
 
